@@ -1,0 +1,157 @@
+-- Laws of the definitions of specs/Bytes.antt, and what each turn of the loops over them shows.
+use Prim.Native.Nat.{ℕ, zero, suc, _+_, _*_, _-_, _≤_, _<_}
+use mathlib.Core.Path.{_≡_, refl, sym, _∙_, ap, ap₂}
+use mathlib.Core.List.{List, [], _∷_}
+use mathlib.Core.Bool.{Bool, true, false, _&&_, _||_}
+use native.Mathlib.Omega.{arith}
+use native.Mathlib.Numerals.{add-one}
+use lib.ListN.{length, getD, take, drop, drop-of-length-le, List·getD-eq-default, length-drop}
+use native.Mathlib.Nat.{le-of-lt, add-assoc}
+use lib.Seq.{drop-cons, take-all, getD-drop}
+use lib.Dec.{ltb, eqb}
+use borrow.Author.Tests.{eq-eqb, ne-eqb, lt-ltb, le-ltb, eqb-true}
+use Rattle.records.specs.Bytes.{sameBytes, beforeBytes, u16At}
+
+-- ---- parts
+
+pub byte-none : (s : List ℕ) (i : ℕ) → length s ≤ i → 0 ≡ getD s i 0
+byte-none s i h = sym (List·getD-eq-default s 0 h)
+
+pub tail-none : (s : List ℕ) (n : ℕ) → length s < n → [] ≡ drop n s
+tail-none s n h = sym (drop-of-length-le s (le-of-lt h))
+
+pub tail-some : (s : List ℕ) (n : ℕ) → take (length s - n) (drop n s) ≡ drop n s
+tail-some s n = take-all (length s - n) (drop n s) (rw length-drop (omega arith))
+
+pub head-all : (s : List ℕ) (n : ℕ) → length s < n → s ≡ take n s
+head-all s n h = sym (take-all n s (le-of-lt h))
+
+-- ---- two bytes
+
+pub u16-none : (s : List ℕ) (at : ℕ) → length s ≤ at → 0 ≡ u16At s at
+unfolding u16At
+u16-none s at h = omega (arith, byte-none s at h, byte-none s (at + 1) (omega arith))
+
+pub u16-is : (s : List ℕ) (at high low : ℕ) → high ≡ getD s at 0 → low ≡ getD s (at + 1) 0 → high * 256 + low ≡ u16At s at
+unfolding u16At
+u16-is s at high low eh el = rw (eh, el)
+
+pub u16-fits : (high low : ℕ) → high < 256 → low < 256 → high * 256 + low < 65536
+u16-fits high low h l = omega arith
+
+pub u16-drop : (s : List ℕ) (at i : ℕ) → u16At (drop at s) i ≡ u16At s (at + i)
+unfolding u16At
+u16-drop s at i = simp (getD-drop, add-assoc)
+
+pub ruleset u16-laws = (u16-none, u16-is, u16-fits)
+
+-- ---- equality
+
+-- strings of different lengths differ
+pub same-lengths : (a b : List ℕ) → (length a ≡ length b → ⊥) → false ≡ sameBytes a b
+unfolding sameBytes
+same-lengths [] [] ne = absurd (ne refl)
+same-lengths [] (y ∷ ys) ne = refl
+same-lengths (x ∷ xs) [] ne = refl
+same-lengths (x ∷ xs) (y ∷ ys) ne = go (eqb x y) (same-lengths xs ys (λ e. ne (ap suc e)))
+  where
+    go : (t : Bool) → false ≡ sameBytes xs ys → false ≡ (t && sameBytes xs ys)
+    go true ih = ih
+    go false ih = refl
+
+-- at i the strings have agreed so far, and what is left decides
+pub record SameAt (a b : List ℕ) (i : ℕ) : Type 0 where
+  pub within : i ≤ length a
+  pub long : length a ≡ length b
+  pub left : sameBytes a b ≡ sameBytes (drop i a) (drop i b)
+
+pub same-start : (a b : List ℕ) → length a ≡ length b → SameAt a b 0
+same-start a b e = record { within = omega arith; long = e; left = refl }
+
+module _ {a b : List ℕ} {i : ℕ} (h : SameAt a b i) where
+  pub same-in : i < length a → i < length b
+  same-in l = omega (arith, h .long)
+
+  pub same-differ : i < length a → (getD a i 0 ≡ getD b i 0 → ⊥) → false ≡ sameBytes a b
+  unfolding sameBytes
+  same-differ la ne = sym (h .left ∙ rw (drop-cons a i 0 la, drop-cons b i 0 (same-in la), ne-eqb (getD a i 0) (getD b i 0) ne))
+
+  pub same-more : i < length a → getD a i 0 ≡ getD b i 0 → SameAt a b (i + 1)
+  unfolding sameBytes
+  same-more la e = record {
+    within = omega arith;
+    long = h .long;
+    left = h .left ∙ rw (add-one, drop-cons a i 0 la, drop-cons b i 0 (same-in la), eq-eqb (getD a i 0) (getD b i 0) e);
+  }
+
+  pub same-done : length a ≤ i → true ≡ sameBytes a b
+  unfolding sameBytes
+  same-done la = sym (h .left ∙ rw (drop-of-length-le a la, drop-of-length-le b {i = i} (omega (arith, h .long))))
+
+pub ruleset same-laws = (same-lengths, same-start, same-in, same-differ, same-more, same-done)
+
+-- strings that compare equal are equal, and the other way
+pub same-eq : (a b : List ℕ) → sameBytes a b ≡ true → a ≡ b
+unfolding sameBytes
+same-eq [] [] e = refl
+same-eq [] (y ∷ ys) e = let z : _≡_ {A = ℕ} 0 1 = cc in absurd (omega arith)
+same-eq (x ∷ xs) [] e = let z : _≡_ {A = ℕ} 0 1 = cc in absurd (omega arith)
+same-eq (x ∷ xs) (y ∷ ys) e = go (eqb x y) refl (same-eq xs ys) e
+  where
+    go : (t : Bool) → eqb x y ≡ t → (sameBytes xs ys ≡ true → xs ≡ ys) → (t && sameBytes xs ys) ≡ true → x ∷ xs ≡ y ∷ ys
+    go true et ih h = ap₂ (λ (p : ℕ) (q : List ℕ). p ∷ q) (eqb-true x y et) (ih h)
+    go false et ih h = let z : _≡_ {A = ℕ} 0 1 = cc in absurd (omega arith)
+
+pub same-refl : (a : List ℕ) → sameBytes a a ≡ true
+unfolding sameBytes
+same-refl [] = refl
+same-refl (x ∷ xs) = rw (eq-eqb x x refl) (same-refl xs)
+
+-- ---- byte order
+
+-- at i the strings have agreed so far, and what is left decides
+pub record BeforeAt (a b : List ℕ) (i : ℕ) : Type 0 where
+  pub in-a : i ≤ length a
+  pub in-b : i ≤ length b
+  pub left : beforeBytes a b ≡ beforeBytes (drop i a) (drop i b)
+
+pub before-start : (a b : List ℕ) → BeforeAt a b 0
+before-start a b = record { in-a = omega arith; in-b = omega arith; left = refl }
+
+module _ {a b : List ℕ} {i : ℕ} (h : BeforeAt a b i) where
+  pub before-short : length b ≤ i → i < length a → false ≡ beforeBytes a b
+  unfolding beforeBytes
+  before-short lb la = sym (h .left ∙ rw (drop-cons a i 0 la, drop-of-length-le b lb))
+
+  pub before-less : i < length a → i < length b → getD a i 0 < getD b i 0 → true ≡ beforeBytes a b
+  unfolding beforeBytes
+  before-less la lb lt = sym (h .left ∙ rw (drop-cons a i 0 la, drop-cons b i 0 lb, lt-ltb (getD a i 0) (getD b i 0) lt))
+
+  pub before-more : i < length a → i < length b → getD b i 0 < getD a i 0 → false ≡ beforeBytes a b
+  unfolding beforeBytes
+  before-more la lb lt =
+      let ge : getD b i 0 ≤ getD a i 0 = omega arith in
+      sym (h .left ∙ rw (drop-cons a i 0 la, drop-cons b i 0 lb, le-ltb (getD a i 0) (getD b i 0) ge, ne-eqb (getD a i 0) (getD b i 0) (omega arith)))
+
+  pub before-next : i < length a → i < length b → getD b i 0 ≤ getD a i 0 → getD a i 0 ≤ getD b i 0 → BeforeAt a b (i + 1)
+  unfolding beforeBytes
+  before-next la lb l1 l2 = record {
+    in-a = omega arith;
+    in-b = omega arith;
+    left = h .left ∙ rw (add-one, drop-cons a i 0 la, drop-cons b i 0 lb, le-ltb (getD a i 0) (getD b i 0) l1, eq-eqb (getD a i 0) (getD b i 0) (omega arith));
+  }
+
+  pub before-long : length a ≤ i → i < length b → true ≡ beforeBytes a b
+  unfolding beforeBytes
+  before-long la lb = sym (h .left ∙ rw (drop-of-length-le a la, drop-cons b i 0 lb))
+
+  pub before-done : length a ≤ i → length b ≤ i → false ≡ beforeBytes a b
+  unfolding beforeBytes
+  before-done la lb = sym (h .left ∙ rw (drop-of-length-le a la, drop-of-length-le b lb))
+
+pub ruleset before-laws = (before-start, before-short, before-less, before-more, before-next, before-long, before-done)
+
+-- ---- a part
+
+pub part-is : (s t r : List ℕ) (start len : ℕ) → t ≡ drop start s → r ≡ take len t → r ≡ take len (drop start s)
+part-is s t r start len et er = cc

@@ -1,0 +1,96 @@
+// Byte strings: equality, byte order, parts, and big-endian numbers.
+ghost use mathlib.Core.Path.{_≡_};
+ghost use Prim.Native.Nat.{_<_};
+ghost use lib.ListN.{getD, take, drop};
+ghost use Rattle.records.specs.Bytes.{sameBytes, beforeBytes, u16At};
+
+// Whether a and b hold the same bytes. The lengths are compared first.
+pub fn same(a: &[u8], b: &[u8]) -> bool
+    ensures { λ r. ⌜ r ≡ sameBytes (now (a .entry)) (now (b .entry)) ⌝ }
+{
+    if a.len() != b.len() {
+        return false;
+    }
+    let mut i: usize = 0;
+    while i < a.len() {
+        if a[i] != b[i] {
+            return false;
+        }
+        i += 1;
+    }
+    true
+}
+
+// Whether a stands before b in byte order.
+pub fn before(a: &[u8], b: &[u8]) -> bool
+    ensures { λ r. ⌜ r ≡ beforeBytes (now (a .entry)) (now (b .entry)) ⌝ }
+{
+    let mut i: usize = 0;
+    while i < a.len() {
+        if b.len() <= i {
+            return false;
+        }
+        if a[i] < b[i] {
+            return true;
+        }
+        if b[i] < a[i] {
+            return false;
+        }
+        i += 1;
+    }
+    if i < b.len() {
+        return true;
+    }
+    false
+}
+
+// The byte at i, 0 where there is none.
+pub fn byte(s: &[u8], i: usize) -> usize
+    ensures { λ r. ⌜ r ≡ getD (now (s .entry)) i 0 ⌝ }
+    ensures { λ r. ⌜ r < 256 ⌝ }
+{
+    if s.len() <= i {
+        return 0;
+    }
+    s[i] as usize
+}
+
+// The two bytes at `at` as a number, the high byte first; a byte that is not there is 0.
+pub fn be16(s: &[u8], at: usize) -> usize
+    ensures { λ r. ⌜ r ≡ u16At (now (s .entry)) at ⌝ }
+    ensures { λ r. ⌜ r < 65536 ⌝ }
+{
+    if s.len() <= at {
+        return 0;
+    }
+    let high = byte(s, at);
+    let low = byte(s, at + 1);
+    high * 256 + low
+}
+
+// What is left of s without its first n bytes.
+pub fn tail(s: &[u8], n: usize) -> &[u8]
+    ensures { λ r. ⌜ now r ≡ drop n (now (s .entry)) ⌝ }
+{
+    if s.len() < n {
+        return &s[..0];
+    }
+    &s[n..]
+}
+
+// The first n bytes of s, all of it where it has fewer.
+pub fn head(s: &[u8], n: usize) -> &[u8]
+    ensures { λ r. ⌜ now r ≡ take n (now (s .entry)) ⌝ }
+{
+    if s.len() < n {
+        return s;
+    }
+    &s[..n]
+}
+
+// The len bytes of s from start on, or as many of them as there are.
+pub fn part(s: &[u8], start: usize, len: usize) -> &[u8]
+    ensures { λ r. ⌜ now r ≡ take len (drop start (now (s .entry))) ⌝ }
+{
+    head(tail(s, start), len)
+}

@@ -1,0 +1,149 @@
+// Names, versions and lists of names, as they stand at the front of a slice.
+ghost use mathlib.Core.Path.{_≡_};
+ghost use Rattle.records.specs.Name.{printable as isPrintable, nameOf, afterName, isField, isName, isNames, isList, isVersion, isNameVersion, isNameList, memName, namesOf, listOf};
+use crate::bytes::be16;
+use crate::bytes::byte;
+use crate::bytes::head;
+use crate::bytes::same;
+use crate::bytes::tail;
+
+// Whether every byte of s is from 0x21 to 0x7E.
+pub fn printable(s: &[u8]) -> bool
+    ensures { λ r. ⌜ r ≡ isPrintable (now (s .entry)) ⌝ }
+{
+    let mut i: usize = 0;
+    while i < s.len() {
+        if s[i] < 0x21 {
+            return false;
+        }
+        if 0x7E < s[i] {
+            return false;
+        }
+        i += 1;
+    }
+    true
+}
+
+// The bytes of the name at the front of s.
+pub fn name_of(s: &[u8]) -> &[u8]
+    ensures { λ r. ⌜ now r ≡ nameOf (now (s .entry)) ⌝ }
+{
+    let n = byte(s, 0);
+    let t = tail(s, 1);
+    head(t, n)
+}
+
+// What stands behind that name.
+pub fn after_name(s: &[u8]) -> &[u8]
+    ensures { λ r. ⌜ now r ≡ afterName (now (s .entry)) ⌝ }
+{
+    let n = byte(s, 0);
+    tail(s, 1 + n)
+}
+
+// Whether a length byte and that many printable bytes stand at the front of s.
+pub fn is_field(s: &[u8]) -> bool
+    ensures { λ r. ⌜ r ≡ isField (now (s .entry)) ⌝ }
+{
+    let n = byte(s, 0);
+    if s.len() < 1 + n {
+        return false;
+    }
+    printable(name_of(s))
+}
+
+// Whether a name stands at the front of s.
+pub fn is_name(s: &[u8]) -> bool
+    ensures { λ r. ⌜ r ≡ isName (now (s .entry)) ⌝ }
+{
+    if byte(s, 0) == 0 {
+        return false;
+    }
+    is_field(s)
+}
+
+// Whether s is `count` names and no more.
+pub fn is_names(s: &[u8], count: usize) -> bool
+    ensures { λ r. ⌜ r ≡ isNames count (now (s .entry)) ⌝ }
+{
+    let mut t = s;
+    let mut k = count;
+    while 0 < k {
+        if !is_name(t) {
+            return false;
+        }
+        let u = after_name(t);
+        t = u;
+        k -= 1;
+    }
+    t.len() == 0
+}
+
+// Whether s is a list and no more.
+pub fn is_list(s: &[u8]) -> bool
+    ensures { λ r. ⌜ r ≡ isList (now (s .entry)) ⌝ }
+{
+    if s.len() < 2 {
+        return false;
+    }
+    let n = be16(s, 0);
+    let t = tail(s, 2);
+    is_names(t, n)
+}
+
+// Whether s is a version and no more.
+pub fn is_version(s: &[u8]) -> bool
+    ensures { λ r. ⌜ r ≡ isVersion (now (s .entry)) ⌝ }
+{
+    if is_field(s) {
+        let t = after_name(s);
+        return t.len() == 0;
+    }
+    false
+}
+
+// Whether s is a name and a version and no more.
+pub fn is_name_version(s: &[u8]) -> bool
+    ensures { λ r. ⌜ r ≡ isNameVersion (now (s .entry)) ⌝ }
+{
+    if is_name(s) {
+        return is_version(after_name(s));
+    }
+    false
+}
+
+// Whether s is a name and a list and no more.
+pub fn is_name_list(s: &[u8]) -> bool
+    ensures { λ r. ⌜ r ≡ isNameList (now (s .entry)) ⌝ }
+{
+    if is_name(s) {
+        return is_list(after_name(s));
+    }
+    false
+}
+
+// Whether the name is one of the first `count` names of s.
+pub fn has_name(s: &[u8], count: usize, name: &[u8]) -> bool
+    ensures { λ r. ⌜ r ≡ memName (now (name .entry)) (namesOf count (now (s .entry))) ⌝ }
+{
+    let mut t = s;
+    let mut k = count;
+    while 0 < k {
+        if same(name_of(t), name) {
+            return true;
+        }
+        let u = after_name(t);
+        t = u;
+        k -= 1;
+    }
+    false
+}
+
+// Whether the name is in the list.
+pub fn list_has(s: &[u8], name: &[u8]) -> bool
+    ensures { λ r. ⌜ r ≡ memName (now (name .entry)) (listOf (now (s .entry))) ⌝ }
+{
+    let n = be16(s, 0);
+    let t = tail(s, 2);
+    has_name(t, n, name)
+}
