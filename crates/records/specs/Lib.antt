@@ -1,5 +1,10 @@
 -- The definitions that the contracts cite, a file for each file of src/.
+pub mod Automatic
 pub mod Bytes
+pub mod Descriptor
 pub mod Error
+pub mod Finder
 pub mod Name
 pub mod Record
+pub mod Request
+pub mod Set

@@ -1,14 +1,15 @@
 // Records: a two-byte mark, a two-byte body length, the body. A cursor walks them.
 ghost use mathlib.Core.Path.{_≡_};
-ghost use mathlib.Core.List.{[]};
-ghost use lib.ListN.{getD};
-ghost use Rattle.records.specs.Record.{stepAt, markFor, setKind, requestKind, kindIn, isModule, isRequires, isBody, nextOf, bodies};
+ghost use mathlib.Core.List.{[], _∷_};
+ghost use lib.ListN.{getD, take};
+ghost use Rattle.records.specs.Record.{stepAt, markFor, setKind, requestKind, kindIn, isModule, isRequires, isBody, nextOf, bodies, begins as beginsWith, firstOf};
 use crate::bytes::be16;
 use crate::bytes::byte;
 use crate::bytes::part;
 use crate::bytes::same;
 use crate::bytes::tail;
 use crate::error::Input;
+use crate::name::after_name;
 use crate::name::is_list;
 use crate::name::is_name_list;
 use crate::name::is_name_version;
@@ -251,6 +252,49 @@ pub fn body(s: &[u8], kind: Kind, k: usize) -> &[u8]
             }
             Next::Nothing => {
                 return &s[..0];
+            }
+        }
+    }
+}
+
+// Whether the body begins with the first `count` of these names.
+fn begins(body: &[u8], count: usize, a: &[u8], b: &[u8], c: &[u8]) -> bool
+    ensures { λ r. ⌜ r ≡ beginsWith (take count (now (a .entry) ∷ now (b .entry) ∷ now (c .entry) ∷ [])) (now (body .entry)) ⌝ }
+{
+    if count == 0 {
+        return true;
+    }
+    if !same(name_of(body), a) {
+        return false;
+    }
+    if count == 1 {
+        return true;
+    }
+    let t = after_name(body);
+    if !same(name_of(t), b) {
+        return false;
+    }
+    if count == 2 {
+        return true;
+    }
+    same(name_of(after_name(t)), c)
+}
+
+// The first record of this kind whose body begins with the first `count` of these names.
+pub fn find_body(s: &[u8], kind: Kind, count: usize, a: &[u8], b: &[u8], c: &[u8]) -> Next
+    ensures { λ r. ⌜ r ≡ firstOf kind (take count (now (a .entry) ∷ now (b .entry) ∷ now (c .entry) ∷ [])) (now (s .entry)) ⌝ }
+{
+    let mut at = Cursor { at: 0 };
+    loop {
+        match at.next(s, kind) {
+            Next::Body { start, len, next } => {
+                if begins(part(s, start, len), count, a, b, c) {
+                    return Next::Body { start, len, next };
+                }
+                at = next;
+            }
+            Next::Nothing => {
+                return Next::Nothing;
             }
         }
     }

@@ -11,7 +11,7 @@ use lib.Dec.{ltb, leb, eqb}
 use borrow.Author.Tests.{eq-eqb, ne-eqb, le-leb, lt-leb, leb-true}
 use Rattle.records.specs.Bytes.{sameBytes}
 use Rattle.records.specs.Name.{allUnnamed, nameOf, isNameVersion}
-use Rattle.records.specs.Record.{markOf, bodyOf, records, recordMore, sizeOf, whole, stepAt, markFor, setKind, requestKind, packageKind, kindIn, pickKind, isModule, isRequires, isBody, isOf, bodiesIn, bodies, nextIn, nextOf, pickNext}
+use Rattle.records.specs.Record.{markOf, bodyOf, records, recordMore, sizeOf, whole, stepAt, markFor, setKind, requestKind, packageKind, kindIn, pickKind, isModule, isRequires, isBody, isOf, bodiesIn, bodies, nextIn, nextOf, pickNext, begins, firstIn}
 use Rattle.records.specs.declared.error.Input.{Input}
 use Rattle.records.specs.declared.error.Input.the-variants.{Set, Request, Packages}
 use Rattle.records.specs.declared.record.Cursor.{Cursor}
@@ -136,6 +136,8 @@ record Found (k : Kind) (off : ℕ) (t : List ℕ) (start len : ℕ) (next : Cur
   next-is : next .at ≡ start + len
   room : start + len ≤ off + length t
   bodies-are : bodies k t ≡ take len (drop (start - off) t) ∷ bodies k (drop (next .at - off) t)
+  first-is : (ns : List (List ℕ)) → firstIn k ns off (records t)
+      ≡ pickNext (begins ns (take len (drop (start - off) t))) (Body start len next) (firstIn k ns (next .at) (records (drop (next .at - off) t)))
 
 record Finds (k : Kind) (t : List ℕ) : Type 0 where
   finds : (off start len : ℕ) (next : Cursor) → nextIn k off (records t) ≡ Body start len next → Found k off t start len next
@@ -147,7 +149,7 @@ finds-stop k t e = record {
 }
 
 finds-more : (k : Kind) (t : List ℕ) → whole t ≡ true → Finds k (drop (suc (recordMore t)) t) → Finds k t
-unfolding nextIn bodies bodiesIn whole recordMore bodyOf
+unfolding nextIn bodies bodiesIn whole recordMore bodyOf firstIn
 finds-more k t e ih = record { finds = λ off start len next h. go off start len next (isOf k f) refl (sym (ap (nextIn k off) (records-cons t e)) ∙ h) }
   where
     n : ℕ
@@ -175,11 +177,13 @@ finds-more k t e ih = record { finds = λ off start len next h. go off start len
     here off start len next eb es el en =
         let d : start - off ≡ 4 = omega arith in
         let g : next .at - off ≡ n = omega (arith, long) in
+        let c : next ≡ record { at = off + length f } = cursor-at next (off + length f) en in
         record {
           later = omega arith;
           next-is = omega (arith, long, size, es, el, en);
           room = omega (arith, l, size);
           bodies-are = rw (records-cons t e, eb, d, g, el, size, body);
+          first-is = λ ns. rw (records-cons t e, eb, d, g, es, el, size, body, en, ← c);
         }
 
     there : (off start len : ℕ) (next : Cursor) → isOf k f ≡ false → Found k (off + length f) u start len next → Found k off t start len next
@@ -191,6 +195,7 @@ finds-more k t e ih = record { finds = λ off start len next h. go off start len
           next-is = p .next-is;
           room = omega (arith, p .room, long, length-drop n t);
           bodies-are = rw (records-cons t e, eb) (p .bodies-are ∙ rw (long, drop-drop (start - (off + n)) n t, drop-drop (next .at - (off + n)) n t, d, g));
+          first-is = λ ns. rw (records-cons t e, eb) (p .first-is ns ∙ rw (long, drop-drop (start - (off + n)) n t, drop-drop (next .at - (off + n)) n t, d, g));
         }
 
     go : (off start len : ℕ) (next : Cursor) (b : Bool) → isOf k f ≡ b
@@ -216,6 +221,15 @@ no-bodies k off (r ∷ rs) e = go (isOf k r) refl (no-bodies k (off + length r) 
     go true eb ih = let z : _≡_ {A = ℕ} 0 1 = cc in absurd (omega arith)
     go false eb ih = rw eb (ih (rw eb at e))
 
+no-first : (k : Kind) (ns : List (List ℕ)) (off : ℕ) (rs : List (List ℕ)) → nextIn k off rs ≡ Nothing → firstIn k ns off rs ≡ Nothing
+unfolding nextIn firstIn
+no-first k ns off [] e = refl
+no-first k ns off (r ∷ rs) e = go (isOf k r) refl (no-first k ns (off + length r) rs)
+  where
+    go : (b : Bool) → isOf k r ≡ b → (nextIn k (off + length r) rs ≡ Nothing → firstIn k ns (off + length r) rs ≡ Nothing) → firstIn k ns off (r ∷ rs) ≡ Nothing
+    go true eb ih = let z : _≡_ {A = ℕ} 0 1 = cc in absurd (omega arith)
+    go false eb ih = rw eb (ih (rw eb at e))
+
 -- what a loop over the records of one kind knows of each turn
 module _ (k : Kind) (s : List ℕ) (at : ℕ) (r : Next) (er : r ≡ nextOf k s at) where
   module _ (start len : ℕ) (next : Cursor) (e : r ≡ Body start len next) where
@@ -230,6 +244,14 @@ module _ (k : Kind) (s : List ℕ) (at : ℕ) (r : Next) (er : r ≡ nextOf k s 
         let g : at + (next .at - at) ≡ next .at = omega (arith, q .later, q .next-is) in
         q .bodies-are ∙ rw (drop-drop (start - at) at s, drop-drop (next .at - at) at s, d, g)
 
+    -- it is the first that begins with these names, or the first is behind it
+    pub first-next : (ns : List (List ℕ)) → at ≤ length s → firstIn k ns at (records (drop at s))
+        ≡ pickNext (begins ns (take len (drop start s))) (Body start len next) (firstIn k ns (next .at) (records (drop (next .at) s)))
+    first-next ns l =
+        let d : at + (start - at) ≡ start = omega (arith, q .later) in
+        let g : at + (next .at - at) ≡ next .at = omega (arith, q .later, q .next-is) in
+        q .first-is ns ∙ rw (drop-drop (start - at) at s, drop-drop (next .at - at) at s, d, g)
+
     pub next-room : at ≤ length s → next .at ≤ length s
     next-room l = omega (arith, q .next-is, q .room, length-drop at s)
 
@@ -243,6 +265,10 @@ module _ (k : Kind) (s : List ℕ) (at : ℕ) (r : Next) (er : r ≡ nextOf k s 
   pub bodies-end : r ≡ Nothing → bodies k (drop at s) ≡ []
   unfolding nextOf bodies
   bodies-end e = no-bodies k at (records (drop at s)) (sym er ∙ e)
+
+  pub first-end : (ns : List (List ℕ)) → r ≡ Nothing → firstIn k ns at (records (drop at s)) ≡ Nothing
+  unfolding nextOf
+  first-end ns e = no-first k ns at (records (drop at s)) (sym er ∙ e)
 
 -- ---- record number i of a kind
 

@@ -1,0 +1,115 @@
+-- A request: its check, and what it says. The check of package records is the same, with PK only
+-- (document 01, "The set and the request").
+use Prim.Native.Nat.{ℕ, _+_}
+use mathlib.Core.List.{List, [], _∷_, map}
+use mathlib.Core.Bool.{Bool, true, false, _&&_, _||_, not}
+use mathlib.Core.Option.{Option, none, some}
+use lib.ListN.{length, take}
+use lib.Dec.{ltb, eqb}
+use Rattle.records.specs.Bytes.{sameBytes}
+use Rattle.records.specs.Name.{javaBase, nameOf, afterName, listOf, memName}
+use Rattle.records.specs.Record.{markOf, bodyOf, records, kindIn, isBody, bodies}
+use Rattle.records.specs.declared.record.Kind.{Kind}
+use Rattle.records.specs.declared.record.Kind.the-variants.{Module, Requires, Exports, Opens, Uses, Provides, Package, MainClass, Root, LimitModules, AddReads, AddExports, AddOpens, Other}
+use Rattle.records.specs.declared.error.Input.{Input}
+use Rattle.records.specs.declared.error.ModuleError.the-variants.{Malformed, TooLarge}
+use Rattle.records.specs.declared.request.RecordsAnswer.{RecordsAnswer}
+use Rattle.records.specs.declared.request.RecordsAnswer.the-variants.{Good, Refused}
+
+-- ---- the check of a request, and of package records
+
+abbrev pub pickAnswer : Bool → RecordsAnswer → RecordsAnswer → RecordsAnswer
+pickAnswer true a b = a
+pickAnswer false a b = b
+
+-- the record is an LM
+unfoldable pub isLimit : Kind → Bool
+isLimit Module = false
+isLimit Requires = false
+isLimit Exports = false
+isLimit Opens = false
+isLimit Uses = false
+isLimit Provides = false
+isLimit Package = false
+isLimit MainClass = false
+isLimit Root = false
+isLimit LimitModules = true
+isLimit AddReads = false
+isLimit AddExports = false
+isLimit AddOpens = false
+isLimit Other = false
+
+-- the records from `at` on: each is of a kind that this input knows, has a well-formed body and is no second LM; the last
+-- ends where the input does (1). `limited` says that an LM was passed.
+unfoldable pub checkRecordsFrom : Input → ℕ → Bool → ℕ → List (List ℕ) → RecordsAnswer
+checkRecordsFrom i n limited at [] = pickAnswer (eqb at n) Good (Refused (Malformed i at))
+checkRecordsFrom i n limited at (r ∷ rs) =
+    pickAnswer (isBody (kindIn i (markOf r)) (bodyOf r) && not (limited && isLimit (kindIn i (markOf r))))
+    (checkRecordsFrom i n (limited || isLimit (kindIn i (markOf r))) (at + length r) rs)
+    (Refused (Malformed i at))
+
+-- the length first (2), then the records
+unfoldable pub checkRecords : Input → List ℕ → RecordsAnswer
+checkRecords i s = pickAnswer (ltb 65535 (length s)) (Refused (TooLarge 0)) (checkRecordsFrom i (length s) false 0 (records s))
+
+-- ---- the decoded request
+
+-- AR: the source reads the target
+pub record Read : Type 0 where
+  pub source : List ℕ
+  pub target : List ℕ
+
+-- AE and AO: a package of the source is exported, or opened, to the target
+pub record Grant : Type 0 where
+  pub source : List ℕ
+  pub pkg : List ℕ
+  pub target : List ℕ
+
+pub record Request : Type 0 where
+  pub roots : List (List ℕ)
+  -- the names in LM, none where there is no LM
+  pub limit : Option (List (List ℕ))
+  pub addReads : List Read
+  pub addExports : List Grant
+  pub addOpens : List Grant
+
+unfoldable pub readOf : List ℕ → Read
+readOf b = record { source = nameOf b; target = nameOf (afterName b) }
+
+unfoldable pub grantOf : List ℕ → Grant
+grantOf b = record { source = nameOf b; pkg = nameOf (afterName b); target = nameOf (afterName (afterName b)) }
+
+-- the names of the first LM
+unfoldable pub limitOf : List (List ℕ) → Option (List (List ℕ))
+limitOf [] = none
+limitOf (b ∷ bs) = some (listOf b)
+
+-- what a request says
+unfoldable pub requestOf : List ℕ → Request
+requestOf s = record {
+  roots = map nameOf (bodies Root s);
+  limit = limitOf (bodies LimitModules s);
+  addReads = map readOf (bodies AddReads s);
+  addExports = map grantOf (bodies AddExports s);
+  addOpens = map grantOf (bodies AddOpens s);
+}
+
+-- no LM permits all names
+unfoldable pub withinLimit : Option (List (List ℕ)) → List ℕ → Bool
+withinLimit none n = true
+withinLimit (some l) n = memName n l
+
+-- permitted: java.base, the names in LM and, without LM, all names
+unfoldable pub isPermitted : Request → List ℕ → Bool
+isPermitted rq n = sameBytes n javaBase || withinLimit (rq .limit) n
+
+-- some AR has this source and this target
+unfoldable pub hasRead : List Read → List ℕ → List ℕ → Bool
+hasRead [] source target = false
+hasRead (a ∷ l) source target = (sameBytes (a .source) source && sameBytes (a .target) target) || hasRead l source target
+
+-- some AE, or AO, has this source, this package and this target
+unfoldable pub hasGrant : List Grant → List ℕ → List ℕ → List ℕ → Bool
+hasGrant [] source pkg target = false
+hasGrant (g ∷ l) source pkg target =
+    (sameBytes (g .source) source && (sameBytes (g .pkg) pkg && sameBytes (g .target) target)) || hasGrant l source pkg target

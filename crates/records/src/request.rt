@@ -1,0 +1,119 @@
+// A request: its check, and what it says. Package records are checked the same way.
+ghost use mathlib.Core.Path.{_≡_};
+ghost use lib.ListN.{take};
+ghost use mathlib.Core.List.{map};
+ghost use Rattle.records.specs.Record.{bodies};
+ghost use Rattle.records.specs.Request.{isLimit, checkRecords, requestOf, isPermitted, grantOf, hasRead, hasGrant};
+use crate::bytes::part;
+use crate::bytes::same;
+use crate::error::Input;
+use crate::error::ModuleError;
+use crate::name::list_has;
+use crate::record::Cursor;
+use crate::record::Kind;
+use crate::record::Next;
+use crate::record::Step;
+use crate::record::find_body;
+use crate::record::is_body;
+use crate::record::kind_in;
+
+// Whether records are well-formed.
+pub enum RecordsAnswer {
+    Good,
+    Refused(ModuleError),
+}
+
+fn is_limit(kind: Kind) -> bool
+    ensures { λ r. ⌜ r ≡ isLimit kind ⌝ }
+{
+    match kind {
+        Kind::LimitModules => true,
+        _ => false,
+    }
+}
+
+// The check of a request, or of package records: the length, then the records from front to back.
+pub fn check_records(input: Input, s: &[u8]) -> RecordsAnswer
+    ensures { λ r. ⌜ r ≡ checkRecords input (now (s .entry)) ⌝ }
+{
+    if 65535 < s.len() {
+        return RecordsAnswer::Refused(ModuleError::TooLarge(0));
+    }
+    let mut c = Cursor { at: 0 };
+    let mut limited = false;
+    loop {
+        let at = c.at;
+        match c.step(s) {
+            Step::Record {
+                mark,
+                start,
+                len,
+                next,
+            } => {
+                let kind = kind_in(input, mark);
+                if !is_body(kind, part(s, start, len)) {
+                    return RecordsAnswer::Refused(ModuleError::Malformed(input, at));
+                }
+                if is_limit(kind) {
+                    if limited {
+                        return RecordsAnswer::Refused(ModuleError::Malformed(input, at));
+                    }
+                    limited = true;
+                }
+                c = next;
+            }
+            Step::Bad => {
+                return RecordsAnswer::Refused(ModuleError::Malformed(input, at));
+            }
+            Step::End => {
+                return RecordsAnswer::Good;
+            }
+        }
+    }
+}
+
+// Whether the request permits the name.
+pub fn is_permitted(request: &[u8], name: &[u8]) -> bool
+    ensures { λ r. ⌜ r ≡ isPermitted (requestOf (now (request .entry))) (now (name .entry)) ⌝ }
+{
+    if same(name, b"java.base") {
+        return true;
+    }
+    let c = Cursor { at: 0 };
+    match c.next(request, Kind::LimitModules) {
+        Next::Body {
+            start,
+            len,
+            next: _,
+        } => list_has(part(request, start, len), name),
+        Next::Nothing => true,
+    }
+}
+
+// Whether the request has an AR of these names.
+pub fn has_read(request: &[u8], source: &[u8], target: &[u8]) -> bool
+    ensures { λ r. ⌜ r ≡ hasRead (requestOf (now (request .entry)) .addReads) (now (source .entry)) (now (target .entry)) ⌝ }
+{
+    match find_body(request, Kind::AddReads, 2, source, target, target) {
+        Next::Body {
+            start: _,
+            len: _,
+            next: _,
+        } => true,
+        Next::Nothing => false,
+    }
+}
+
+// Whether the request has an AE, or an AO, of these names: kind says which.
+pub fn has_grant(request: &[u8], kind: Kind, source: &[u8], pkg: &[u8], target: &[u8]) -> bool
+    ensures { λ r. ⌜ r ≡ hasGrant (map grantOf (bodies kind (now (request .entry)))) (now (source .entry)) (now (pkg .entry)) (now (target .entry)) ⌝ }
+{
+    match find_body(request, kind, 3, source, pkg, target) {
+        Next::Body {
+            start: _,
+            len: _,
+            next: _,
+        } => true,
+        Next::Nothing => false,
+    }
+}
