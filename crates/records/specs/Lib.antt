@@ -5,6 +5,7 @@ pub mod Descriptor
 pub mod Error
 pub mod Finder
 pub mod Name
+pub mod Order
 pub mod Record
 pub mod Request
 pub mod Set

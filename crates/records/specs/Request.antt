@@ -9,10 +9,16 @@ use lib.Dec.{ltb, eqb}
 use Rattle.records.specs.Bytes.{sameBytes}
 use Rattle.records.specs.Name.{javaBase, nameOf, afterName, listOf, memName}
 use Rattle.records.specs.Record.{markOf, bodyOf, records, kindIn, isBody, bodies}
+use Rattle.records.specs.Set.{pickChecked, refused, checkSet}
 use Rattle.records.specs.declared.record.Kind.{Kind}
 use Rattle.records.specs.declared.record.Kind.the-variants.{Module, Requires, Exports, Opens, Uses, Provides, Package, MainClass, Root, LimitModules, AddReads, AddExports, AddOpens, Other}
 use Rattle.records.specs.declared.error.Input.{Input}
+use Rattle.records.specs.declared.error.Input.the-variants as Input
 use Rattle.records.specs.declared.error.ModuleError.the-variants.{Malformed, TooLarge}
+use Rattle.records.specs.declared.set.Checked.{Checked}
+use Rattle.records.specs.declared.set.SetAnswer.{SetAnswer}
+use Rattle.records.specs.declared.set.SetAnswer.the-variants.{Modules}
+use Rattle.records.specs.declared.set.SetAnswer.the-variants as Set
 use Rattle.records.specs.declared.request.RecordsAnswer.{RecordsAnswer}
 use Rattle.records.specs.declared.request.RecordsAnswer.the-variants.{Good, Refused}
 
@@ -51,6 +57,20 @@ checkRecordsFrom i n limited at (r ∷ rs) =
 -- the length first (2), then the records
 unfoldable pub checkRecords : Input → List ℕ → RecordsAnswer
 checkRecords i s = pickAnswer (ltb 65535 (length s)) (Refused (TooLarge 0)) (checkRecordsFrom i (length s) false 0 (records s))
+
+-- ---- a set and a request
+
+-- the answer on the set, and where that is taken, the answer on the request
+unfoldable pub thenRequest : Checked → SetAnswer → RecordsAnswer → Checked
+thenRequest c (Set.Refused e) a = c
+thenRequest c (Modules n) Good = c
+thenRequest c (Modules n) (Refused e) = refused e
+
+-- both lengths (2), the set, then the request
+unfoldable pub checkInputs : List ℕ → List ℕ → Checked
+checkInputs s q =
+    pickChecked (ltb 65535 (length s) || ltb 65535 (length q)) (refused (TooLarge 0))
+    (thenRequest (checkSet s) (checkSet s .answer) (checkRecords Input.Request q))
 
 -- ---- the decoded request
 

@@ -136,3 +136,8 @@ blockAt s starts i = take (getD starts (i + 1) 0 - getD starts i 0) (drop (getD 
 -- the modules of a set
 unfoldable pub modules : List ℕ → List Descriptor
 modules s = map descriptorOf (blocks s)
+
+-- no name stands twice
+unfoldable pub distinct : List (List ℕ) → Bool
+distinct [] = true
+distinct (n ∷ l) = not (memName n l) && distinct l

@@ -6,6 +6,7 @@ pub mod descriptor;
 pub mod error;
 pub mod finder;
 pub mod name;
+mod order;
 pub mod record;
 pub mod request;
 pub mod set;

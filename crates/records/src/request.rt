@@ -3,7 +3,7 @@ ghost use mathlib.Core.Path.{_≡_};
 ghost use lib.ListN.{take};
 ghost use mathlib.Core.List.{map};
 ghost use Rattle.records.specs.Record.{bodies};
-ghost use Rattle.records.specs.Request.{isLimit, checkRecords, requestOf, isPermitted, grantOf, hasRead, hasGrant};
+ghost use Rattle.records.specs.Request.{isLimit, checkRecords, checkInputs, requestOf, isPermitted, grantOf, hasRead, hasGrant};
 use crate::bytes::part;
 use crate::bytes::same;
 use crate::error::Input;
@@ -16,6 +16,10 @@ use crate::record::Step;
 use crate::record::find_body;
 use crate::record::is_body;
 use crate::record::kind_in;
+use crate::set::Checked;
+use crate::set::SetAnswer;
+use crate::set::check_set;
+use crate::set::refuse;
 
 // Whether records are well-formed.
 pub enum RecordsAnswer {
@@ -69,6 +73,24 @@ pub fn check_records(input: Input, s: &[u8]) -> RecordsAnswer
                 return RecordsAnswer::Good;
             }
         }
+    }
+}
+
+// The check of a set and a request: both lengths, the set, then the request.
+pub fn check(set: &[u8], request: &[u8]) -> Checked
+    ensures { λ r. ⌜ r ≡ checkInputs (now (set .entry)) (now (request .entry)) ⌝ }
+{
+    if 65535 < request.len() {
+        return refuse(ModuleError::TooLarge(0));
+    }
+    let c = check_set(set);
+    let answer = c.answer;
+    match answer {
+        SetAnswer::Refused(_) => c,
+        SetAnswer::Modules(_) => match check_records(Input::Request, request) {
+            RecordsAnswer::Good => c,
+            RecordsAnswer::Refused(e) => refuse(e),
+        },
     }
 }
 

@@ -111,7 +111,8 @@ fn judge(
     Verdict::Stop(ModuleError::Malformed(Input::Set, at))
 }
 
-fn refuse(e: ModuleError) -> Checked
+// The answer on a set that is refused.
+pub fn refuse(e: ModuleError) -> Checked
     ensures { λ r. ⌜ r ≡ refused e ⌝ }
 {
     Checked {

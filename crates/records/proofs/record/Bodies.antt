@@ -255,6 +255,10 @@ module _ (k : Kind) (s : List ℕ) (at : ℕ) (r : Next) (er : r ≡ nextOf k s 
     pub next-room : at ≤ length s → next .at ≤ length s
     next-room l = omega (arith, q .next-is, q .room, length-drop at s)
 
+    -- a record takes four bytes at least
+    pub next-later : at + 4 ≤ next .at
+    next-later = omega (arith, q .later, q .next-is)
+
     pub body-room : at ≤ length s → start + len ≤ length s
     body-room l = omega (arith, q .room, length-drop at s)
 

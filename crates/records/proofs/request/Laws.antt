@@ -13,9 +13,16 @@ use denote.Enum.Declared.{tagOf}
 use Rattle.records.specs.Bytes.{sameBytes}
 use Rattle.records.specs.Name.{javaBase, nameOf, afterName, listOf, memName}
 use Rattle.records.specs.Record.{markOf, bodyOf, records, stepAt, markFor, kindIn, isBody, isOf, bodiesIn, bodies, nextOf, begins, firstOf}
-use Rattle.records.specs.Request.{pickAnswer, isLimit, checkRecordsFrom, checkRecords, readOf, grantOf, limitOf, requestOf, withinLimit, isPermitted, hasRead, hasGrant}
+use Rattle.records.specs.Request.{pickAnswer, isLimit, checkRecordsFrom, checkRecords, thenRequest, checkInputs, readOf, grantOf, limitOf, requestOf, withinLimit, isPermitted, hasRead, hasGrant}
 use Rattle.records.specs.declared.error.Input.{Input}
+use Rattle.records.specs.declared.error.Input.the-variants.{Request}
+use Rattle.records.specs.declared.error.ModuleError.{ModuleError}
 use Rattle.records.specs.declared.error.ModuleError.the-variants.{Malformed, TooLarge}
+use Rattle.records.specs.Set.{pickChecked, refused, checkSet}
+use Rattle.records.specs.declared.set.Checked.{Checked}
+use Rattle.records.specs.declared.set.SetAnswer.{SetAnswer}
+use Rattle.records.specs.declared.set.SetAnswer.the-variants.{Modules}
+use Rattle.records.specs.declared.set.SetAnswer.the-variants as Set
 use Rattle.records.specs.declared.record.Cursor.{Cursor}
 use Rattle.records.specs.declared.record.Step.{Step}
 use Rattle.records.specs.declared.record.Step.the-variants.{Record, Bad, End}
@@ -23,6 +30,7 @@ use Rattle.records.specs.declared.record.Next.{Next}
 use Rattle.records.specs.declared.record.Next.the-variants.{Body, Nothing}
 use Rattle.records.specs.declared.record.Kind.{Kind}
 use Rattle.records.specs.declared.record.Kind.the-variants.{Module, Requires, Exports, Opens, Uses, Provides, Package, MainClass, Root, LimitModules, AddReads, AddExports, AddOpens, Other}
+use Rattle.records.specs.declared.request.RecordsAnswer.{RecordsAnswer}
 use Rattle.records.specs.declared.request.RecordsAnswer.the-variants.{Good, Refused}
 use Rattle.records.proofs.record.Kind.{the-type}
 use Rattle.records.proofs.record.Laws.{Stepped, stepped, stepped-bad, stepped-end, stepped-in, records-next, front-mark, front-body, front-length, records-none, records-end, step-less}
@@ -230,3 +238,44 @@ module _ (k : Kind) (s source pkg target : List ℕ) (r : Next) (er : r ≡ firs
 
   pub grant-no : r ≡ Nothing → false ≡ hasGrant (map grantOf (bodies k s)) source pkg target
   grant-no e = found-no k (source ∷ pkg ∷ target ∷ []) s r er e ∙ sym (grant-first source pkg target (bodies k s))
+
+-- ---- a set and a request
+
+inputs-are : (s q : List ℕ) → length q ≤ 65535 → checkInputs s q ≡ thenRequest (checkSet s) (checkSet s .answer) (checkRecords Request q)
+unfolding checkInputs checkSet refused thenRequest
+inputs-are s q l = rw (le-ltb 65535 (length q) l) (go (ltb 65535 (length s)) refl)
+  where
+    go : (b : Bool) → ltb 65535 (length s) ≡ b
+        → pickChecked (ltb 65535 (length s) || false) (refused (TooLarge 0)) (thenRequest (checkSet s) (checkSet s .answer) (checkRecords Request q)) ≡ thenRequest (checkSet s) (checkSet s .answer) (checkRecords Request q)
+    go true e = rw e
+    go false e = rw e
+
+module _ (s q : List ℕ) where
+  pub inputs-long : (r : Checked) → 65535 < length q → r ≡ refused (TooLarge 0) → r ≡ checkInputs s q
+  unfolding checkInputs
+  inputs-long r l e = e ∙ sym (go (ltb 65535 (length s)))
+    where
+      go : (b : Bool) → pickChecked (b || ltb 65535 (length q)) (refused (TooLarge 0)) (thenRequest (checkSet s) (checkSet s .answer) (checkRecords Request q)) ≡ refused (TooLarge 0)
+      go true = refl
+      go false = rw (lt-ltb 65535 (length q) l)
+
+  module _ (l : length q ≤ 65535) (c : Checked) (ec : c ≡ checkSet s) where
+    pub inputs-set : (e : ModuleError) → c .answer ≡ Set.Refused e → c ≡ checkInputs s q
+    unfolding thenRequest
+    inputs-set e h =
+        let w : checkSet s .answer ≡ Set.Refused e = sym (ap (λ (x : Checked). x .answer) ec) ∙ h in
+        ec ∙ sym (inputs-are s q l ∙ rw w)
+
+    module _ (n : ℕ) (h : c .answer ≡ Modules n) (a : RecordsAnswer) (ea : a ≡ checkRecords Request q) where
+      w : checkSet s .answer ≡ Modules n
+      w = sym (ap (λ (x : Checked). x .answer) ec) ∙ h
+
+      pub inputs-good : a ≡ Good → c ≡ checkInputs s q
+      unfolding thenRequest
+      inputs-good g = ec ∙ sym (inputs-are s q l ∙ rw (w, ← ea, g))
+
+      pub inputs-refused : (e : ModuleError) (r : Checked) → a ≡ Refused e → r ≡ refused e → r ≡ checkInputs s q
+      unfolding thenRequest
+      inputs-refused e r g f = f ∙ sym (inputs-are s q l ∙ rw (w, ← ea, g))
+
+pub ruleset inputs-laws = (inputs-long, inputs-set, inputs-good, inputs-refused)
