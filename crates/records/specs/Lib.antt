@@ -4,8 +4,10 @@ pub mod Bytes
 pub mod Descriptor
 pub mod Error
 pub mod Finder
+pub mod Jar
 pub mod Name
 pub mod Order
+pub mod Output
 pub mod Record
 pub mod Request
 pub mod Set

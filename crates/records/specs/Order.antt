@@ -4,7 +4,7 @@ use mathlib.Core.Path.{_≡_}
 use mathlib.Core.List.{List, [], _∷_, _++_, map}
 use mathlib.Core.Bool.{Bool, true, false, cond, _&&_}
 use lib.ListN.{length, getD, take, drop}
-use lib.Dec.{ltb}
+use lib.Dec.{ltb, leb}
 use Rattle.records.specs.Bytes.{sameBytes, beforeBytes}
 use Rattle.records.specs.Name.{nameOf}
 use Rattle.records.specs.Record.{bodies}
@@ -42,6 +42,13 @@ unfoldable pub allNames : (List ℕ → Bool) → List (List ℕ) → Bool
 allNames q [] = true
 allNames q (n ∷ l) = q n && allNames q l
 
+-- the name is short enough for a length byte
+unfoldable pub isShort : List ℕ → Bool
+isShort n = leb (length n) 255
+
+unfoldable pub allShort : List (List ℕ) → Bool
+allShort l = allNames isShort l
+
 -- ---- a table of entries
 
 -- r is the number of the first `count` entries whose names stand before `name`: all those below r, and not the one at r
@@ -68,5 +75,6 @@ pub record Inserted (s before after : List ℕ) (count entry r : ℕ) : Type 0 w
 -- the first r entries tell the packages in byte order without repeats
 pub record PackagesOrdered (s before after : List ℕ) (r : ℕ) : Type 0 where
   pub names-are : map (nameIn s) (take r after) ≡ ordered (packagesOf s)
+  pub small : allShort (map (nameIn s) (take r after)) ≡ true
   pub long : length after ≡ length before
   pub most : r < 16384

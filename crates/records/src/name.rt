@@ -1,5 +1,7 @@
 // Names, versions and lists of names, as they stand at the front of a slice.
 ghost use mathlib.Core.Path.{_≡_};
+ghost use Prim.Native.Nat.{_≤_};
+ghost use lib.ListN.{length};
 ghost use Rattle.records.specs.Name.{printable as isPrintable, nameOf, afterName, isField, isName, isNames, isList, isVersion, isNameVersion, isNameList, memName, namesOf, listOf};
 use crate::bytes::be16;
 use crate::bytes::byte;
@@ -24,9 +26,10 @@ pub fn printable(s: &[u8]) -> bool
     true
 }
 
-// The bytes of the name at the front of s.
+// The bytes of the name at the front of s, 255 at most.
 pub fn name_of(s: &[u8]) -> &[u8]
     ensures { λ r. ⌜ now r ≡ nameOf (now (s .entry)) ⌝ }
+    ensures { λ r. ⌜ length (now r) ≤ 255 ⌝ }
 {
     let n = byte(s, 0);
     let t = tail(s, 1);

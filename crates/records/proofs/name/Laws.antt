@@ -7,11 +7,20 @@ use mathlib.Core.Bool.{Bool, true, false, _&&_, _||_, not}
 use native.Mathlib.Omega.{arith}
 use native.Mathlib.Nat.{le-of-lt, le-of-eq, le-antisymm, not-suc-le-zero}
 use native.Mathlib.Numerals.{add-one, sub-one}
-use lib.ListN.{length, getD, take, drop, drop-of-length-le, List·getD-eq-default, length-drop}
+use lib.ListN.{length, getD, take, drop, drop-of-length-le, length-take}
 use lib.Seq.{drop-cons, take-all}
 use lib.Dec.{ltb, leb, eqb}
 use borrow.Author.Tests.{eq-eqb, ne-eqb, lt-ltb, le-ltb, le-leb, lt-leb, not-true, not-false}
 use Rattle.records.specs.Name.{printable, nameOf, afterName, isField, isName, isEmpty, isNames, isList, isVersion, namesOf, listOf, memName}
+
+-- ---- the name at the front
+
+pub name-told : (s t r : List ℕ) (n : ℕ) → n ≡ getD s 0 0 → t ≡ drop 1 s → r ≡ take n t → r ≡ nameOf s
+unfolding nameOf
+name-told s t r n en et er = cc
+
+pub name-short : (t r : List ℕ) (n : ℕ) → n < 256 → r ≡ take n t → length r ≤ 255
+name-short t r n l e = rw (e, length-take) (omega arith)
 
 -- the bytes before i are printable, and what is left decides
 pub record PrintableAt (s : List ℕ) (i : ℕ) : Type 0 where

@@ -120,7 +120,7 @@ ordered-adds-none n l h = sym (ordered-mem n l) ∙ h
 
 -- ---- what holds of every name
 
-insert-all : (q : List ℕ → Bool) (n : List ℕ) (l : List (List ℕ)) → q n ≡ true → allNames q l ≡ true → allNames q (insertName n l) ≡ true
+pub insert-all : (q : List ℕ → Bool) (n : List ℕ) (l : List (List ℕ)) → q n ≡ true → allNames q l ≡ true → allNames q (insertName n l) ≡ true
 unfolding allNames insertName
 insert-all q n [] e h = rw e
 insert-all q n (m ∷ l) e h = go (stands n m) (insert-all q n l e)

@@ -8,11 +8,13 @@ use lib.ListN.{length, getD, take, drop, length-drop}
 use lib.Seq.{take-nil, drop-drop}
 use Rattle.records.specs.Name.{nameOf}
 use Rattle.records.specs.Record.{bodies, nextOf}
-use Rattle.records.specs.Order.{orderedFrom, ordered, isOrdered, nameIn, packagesOf, Inserted, PackagesOrdered}
+use borrow.Author.Tests.{le-leb}
+use Rattle.records.specs.Order.{orderedFrom, ordered, isOrdered, allNames, isShort, allShort, nameIn, packagesOf, Inserted, PackagesOrdered}
 use Rattle.records.specs.declared.record.Cursor.{Cursor}
 use Rattle.records.specs.declared.record.Next.{Next}
 use Rattle.records.specs.declared.record.Next.the-variants.{Body, Nothing}
 use Rattle.records.specs.declared.record.Kind.the-variants.{Package}
+use Rattle.records.proofs.order.Ordered.{insert-all}
 use Rattle.records.proofs.record.Bodies.{bodies-next, bodies-end, next-room, next-later, next-less, body-room}
 
 -- ---- the entry of a name
@@ -50,6 +52,10 @@ module _ (s b n : List ℕ) (start len : ℕ) (eb : b ≡ take len (drop start s
       let r : ((start + 1) * 65536 + length n) % 65536 ≡ length n = omega arith in
       rw (a, r) (rw (← part-of) at (take-prefix (getD b 0 0) (len - 1) (drop (start + 1) s)))
 
+short-is : (n : List ℕ) → length n ≤ 255 → isShort n ≡ true
+unfolding isShort
+short-is n l = le-leb (length n) 255 l
+
 -- ---- the walk
 
 -- the packages before `at` are in the table, and those from `at` on are still to come
@@ -59,17 +65,19 @@ pub record PackagesAt (s t table : List ℕ) (count at : ℕ) : Type 0 where
   pub wide : 16384 ≤ length t
   pub long : length table ≡ length t
   pub few : 4 * count ≤ at
+  pub small : allShort (map (nameIn s) (take count table)) ≡ true
   pub sorted : isOrdered (map (nameIn s) (take count table)) ≡ true
   pub left : ordered (packagesOf s) ≡ orderedFrom (map (nameIn s) (take count table)) (map nameOf (bodies Package (drop at s)))
 
 pub packages-start : (s t : List ℕ) → length s ≤ 65535 → 16384 ≤ length t → PackagesAt s t t 0 0
-unfolding ordered packagesOf isOrdered
+unfolding ordered packagesOf isOrdered allShort allNames
 packages-start s t h k = record {
   within = omega arith;
   short = h;
   wide = k;
   long = refl;
   few = omega arith;
+  small = refl;
   sorted = refl;
   left = refl;
 }
@@ -100,14 +108,15 @@ module _ (s t table : List ℕ) (count at : ℕ) (h : PackagesAt s t table count
         pub packages-entry : (start + 1) * 65536 + length n < 2 ^ 64
         packages-entry = omega (arith, body-within, name-short s b n start len eb en, h .short)
 
-        pub packages-more : (table₁ : List ℕ) (count₁ : ℕ) → Inserted s table table₁ count ((start + 1) * 65536 + length n) count₁ → PackagesAt s t table₁ count₁ (next .at)
-        unfolding orderedFrom
-        packages-more table₁ count₁ i = record {
+        pub packages-more : length n ≤ 255 → (table₁ : List ℕ) (count₁ : ℕ) → Inserted s table table₁ count ((start + 1) * 65536 + length n) count₁ → PackagesAt s t table₁ count₁ (next .at)
+        unfolding orderedFrom allShort
+        packages-more ln table₁ count₁ i = record {
           within = next-room Package s at r er start len next e (h .within);
           short = h .short;
           wide = h .wide;
           long = i .long ∙ h .long;
           few = omega (arith, i .most, h .few, next-later Package s at r er start len next e);
+          small = rw (i .names-are, entry-name s b n start len eb en (h .short)) (insert-all isShort n (map (nameIn s) (take count table)) (short-is n ln) (h .small));
           sorted = i .sorted;
           left =
               h .left
@@ -118,6 +127,7 @@ module _ (s t table : List ℕ) (count at : ℕ) (h : PackagesAt s t table count
     unfolding orderedFrom
     packages-done e = record {
       names-are = sym (h .left ∙ rw (bodies-end Package s at r er e));
+      small = h .small;
       long = h .long;
       most = omega (arith, h .few, h .within, h .short);
     }

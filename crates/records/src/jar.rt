@@ -1,0 +1,91 @@
+// The jar reader: the records of an automatic module, for a jar and its packages.
+ghost use mathlib.Core.Path.{_≡_};
+ghost use Prim.Native.Nat.{_≤_};
+ghost use lib.ListN.{length};
+ghost use Rattle.records.specs.Jar.{Ordered, Fitted, JarRead};
+use crate::automatic::Named;
+use crate::automatic::derive_automatic_module_name;
+use crate::automatic::validate_module_name;
+use crate::bytes::head;
+use crate::error::Input;
+use crate::error::ModuleError;
+use crate::order::ordered_packages;
+use crate::output::size;
+use crate::output::write_records;
+use crate::request::RecordsAnswer;
+use crate::request::check_records;
+
+// How many bytes were written, or why none.
+pub enum Written {
+    Bytes(usize),
+    Refused(ModuleError),
+}
+
+// Writes the records of the module of this name, if the output has room. The table tells its packages in order.
+fn write_ordered(
+    name: &[u8],
+    packages: &[u8],
+    table: &[usize],
+    count: usize,
+    out: &mut [u8],
+) -> Written
+    requires { ⌜ length (now name) ≤ 255 ⌝ }
+    requires { ⌜ Ordered (now packages) (now table) count ⌝ }
+    ensures { λ r. ⌜ Fitted (now (name .entry)) (now (packages .entry)) (now (out .entry)) (now (out .exit)) r ⌝ }
+{
+    let n = 26 + name.len() + size(packages, table, count);
+    if out.len() < n {
+        return Written::Refused(ModuleError::OutputTooShort(n));
+    }
+    write_records(out, name, packages, table, count);
+    Written::Bytes(n)
+}
+
+// The same, with the packages put in order first.
+fn write_fitted(name: &[u8], packages: &[u8], out: &mut [u8]) -> Written
+    requires { ⌜ length (now name) ≤ 255 ⌝ }
+    requires { ⌜ length (now packages) ≤ 65535 ⌝ }
+    ensures { λ r. ⌜ Fitted (now (name .entry)) (now (packages .entry)) (now (out .entry)) (now (out .exit)) r ⌝ }
+{
+    let mut table = [0usize; 16384];
+    let count = ordered_packages(packages, &mut table);
+    write_ordered(name, packages, &table, count, out)
+}
+
+// The records of an automatic module: its name is the manifest's where one is given, else derived from the name of the jar.
+// Nothing is written on a refusal.
+pub fn automatic_from_jar_name(
+    jar: &[u8],
+    given: bool,
+    manifest: &[u8],
+    packages: &[u8],
+    out: &mut [u8],
+) -> Written
+    ensures { λ r. ⌜ JarRead (now (jar .entry)) given (now (manifest .entry)) (now (packages .entry)) (now (out .entry)) (now (out .exit)) r ⌝ }
+{
+    if 255 < jar.len() {
+        return Written::Refused(ModuleError::TooLarge(0));
+    }
+    match check_records(Input::Packages, packages) {
+        RecordsAnswer::Refused(e) => Written::Refused(e),
+        RecordsAnswer::Good => {
+            if given {
+                if validate_module_name(manifest) {
+                    return write_fitted(manifest, packages, out);
+                }
+                return Written::Refused(ModuleError::InvalidModuleName);
+            }
+            let d = derive_automatic_module_name(jar);
+            let answer = d.answer;
+            match answer {
+                Named::Refused(e) => Written::Refused(e),
+                Named::Valid => {
+                    let text = d.text;
+                    let bytes = text.bytes;
+                    let len = text.len;
+                    write_fitted(head(&bytes, len), packages, out)
+                }
+            }
+        }
+    }
+}
