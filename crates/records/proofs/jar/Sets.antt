@@ -1,0 +1,206 @@
+-- What the jar reader writes is itself a set that the check takes, of one module that has the jar's module name.
+use Prim.Native.Nat.{ℕ, suc, _+_, _≤_, _<_}
+use mathlib.Core.Path.{_≡_, refl, sym, _∙_, ap}
+use mathlib.Core.List.{List, [], _∷_, _++_, map, append-nil}
+use mathlib.Core.Bool.{Bool, true, false, _||_}
+use native.Mathlib.Omega.{arith}
+use lib.ListN.{length, getD, take, drop, length-append}
+use lib.Dec.{ltb}
+use borrow.Author.Tests.{le-ltb, eq-eqb}
+use Rattle.records.specs.Bytes.{sameBytes}
+use Rattle.records.specs.Name.{javaBase, printable, nameOf, afterName, isField, isName, isEmpty, isVersion, isNameVersion, memName}
+use Rattle.records.specs.Record.{recordMore, whole, records, markFor, setKind, isRequires, isBody}
+use Rattle.records.specs.Descriptor.{Descriptor, moduleName}
+use Rattle.records.specs.Set.{Passed, nameAt, isPlaced, admitAt, passAt, judgeAt, tableOf, accepted, goOn, checkFrom, checkSet, modules}
+use Rattle.records.specs.Automatic.{derivedName, isModuleName, validated, derived, pickNamed, withoutJar, fileName}
+use Rattle.records.specs.Request.{checkRecords}
+use Rattle.records.specs.Order.{ordered, packagesOf, allNames}
+use Rattle.records.specs.Output.{recordBytes, nameBytes, moduleRecord, baseRecord, group, noTargets, automaticRecords}
+use Rattle.records.specs.Jar.{nameFor, namedFor, recordsFor, pickWritten, fitted, thenName, thenPackages, jarAnswer}
+use Rattle.records.specs.declared.automatic.Named.{Named}
+use Rattle.records.specs.declared.automatic.Named.the-variants as Named
+use Rattle.records.specs.declared.error.Input.the-variants.{Packages}
+use Rattle.records.specs.declared.error.ModuleError.the-variants.{TooLarge, OutputTooShort, InvalidModuleName, InvalidAutomaticModuleName}
+use Rattle.records.specs.declared.record.Kind.{Kind}
+use Rattle.records.specs.declared.record.Kind.the-variants.{Module, Requires, Exports, Opens, Package}
+use Rattle.records.specs.declared.request.RecordsAnswer.{RecordsAnswer}
+use Rattle.records.specs.declared.request.RecordsAnswer.the-variants as Records
+use Rattle.records.specs.declared.set.Verdict.the-variants.{Pass}
+use Rattle.records.specs.declared.jar.Written.the-variants.{Bytes, Refused}
+use Rattle.records.proofs.automatic.Characters.{both}
+use Rattle.records.proofs.automatic.Parts.{module-name-short, module-name-some, module-name-printable, module-name-not-unnamed}
+use Rattle.records.proofs.output.Made.{made-mark, made-body, made-whole, groupRecords, automatic-records}
+use Rattle.records.proofs.output.WellFormed.{name-read, module-made, entry-made, package-made}
+use Rattle.records.proofs.record.Laws.{records-cons}
+use Rattle.records.proofs.set.Blocks.{good-set}
+use Rattle.records.proofs.set.Table.{name-here}
+use Rattle.records.proofs.jar.PackageNames.{isPackageName, name-some, name-printable, names-short, good-packages}
+
+-- ---- the check of the records
+
+-- one module, which starts at 0 and has no MC
+abbrev one : Passed
+one = record { starts = 0 ∷ []; main = false }
+
+-- records that pass behind the MO
+module _ (s : List ℕ) (k : Kind) (known : setKind (markFor k) ≡ k) (placed : isPlaced 1 false k ≡ true) (goes : (at : ℕ) (b : List ℕ) → passAt s (0 ∷ []) at k b ≡ Pass) where
+  passes : (at : ℕ) (b : List ℕ) (rs : List (List ℕ)) → isBody k b ≡ true → checkFrom s one at (recordBytes k b ∷ rs) ≡ checkFrom s one (at + length (recordBytes k b)) rs
+  unfolding checkFrom judgeAt goOn
+  passes at b rs e = rw (made-mark k b, made-body k b, known, placed, e, goes at b)
+
+  module _ (end : List ℕ) (made : (n : List ℕ) → isPackageName n ≡ true → isBody k (nameBytes n ++ end) ≡ true) where
+    group-passes : (at : ℕ) (ns rs : List (List ℕ)) → allNames isPackageName ns ≡ true → checkFrom s one at (groupRecords k end ns ++ rs) ≡ checkFrom s one (at + length (group k end ns)) rs
+    unfolding groupRecords group allNames
+    group-passes at [] rs e = let z : at + 0 ≡ at = omega arith in rw z
+    group-passes at (n ∷ ns) rs e =
+        let p : (isPackageName n ≡ true) × (allNames isPackageName ns ≡ true) = both (isPackageName n) (allNames isPackageName ns) e in
+        let r : List ℕ = recordBytes k (nameBytes n ++ end) in
+        let w : at + length r + length (group k end ns) ≡ at + length (r ++ group k end ns) = rw length-append (omega arith) in
+        passes at (nameBytes n ++ end) (groupRecords k end ns ++ rs) (made n (p .0)) ∙ group-passes (at + length r) ns rs (p .1) ∙ rw w
+
+-- the records of an automatic module with these packages
+module _ (n : List ℕ) (ps : List (List ℕ)) (v : isModuleName n ≡ true) (g : allNames isPackageName ps ≡ true) where
+  abbrev s : List ℕ
+  s = automaticRecords n ps
+
+  -- the body of its MO
+  abbrev header : List ℕ
+  header = 0 ∷ 0 ∷ 1 ∷ (nameBytes n ++ (0 ∷ []))
+
+  -- the records from the first OP on, and from the first EX on
+  abbrev opened : List (List ℕ)
+  opened = groupRecords Opens noTargets ps ++ groupRecords Package [] ps
+
+  abbrev exported : List (List ℕ)
+  exported = groupRecords Exports noTargets ps ++ opened
+
+  module-starts : (rs : List (List ℕ)) → checkFrom s (record { starts = []; main = false }) 0 (moduleRecord n ∷ rs) ≡ checkFrom s one (length (moduleRecord n)) rs
+  unfolding moduleRecord checkFrom judgeAt goOn isPlaced isBody passAt admitAt moduleName memName setKind markFor
+  module-starts rs =
+      let z : 0 + length (recordBytes Module header) ≡ length (recordBytes Module header) = omega arith in
+      rw (
+        made-mark Module header,
+        made-body Module header,
+        module-made n (module-name-printable n v) (module-name-some n v),
+        name-read n (0 ∷ []),
+        module-name-not-unnamed n v,
+        z,
+      )
+
+  base-passes : (at : ℕ) (rs : List (List ℕ)) → checkFrom s one at (baseRecord ∷ rs) ≡ checkFrom s one (at + length baseRecord) rs
+  unfolding baseRecord isBody isRequires isNameVersion isVersion isName isField isEmpty afterName nameOf printable nameBytes sameBytes isPlaced passAt setKind markFor
+  base-passes at rs = passes s Requires refl refl (λ a b. refl) at (0x80 ∷ 0 ∷ (nameBytes javaBase ++ (0 ∷ []))) rs refl
+
+  exports-pass : (at : ℕ) (rs : List (List ℕ)) → checkFrom s one at (groupRecords Exports noTargets ps ++ rs) ≡ checkFrom s one (at + length (group Exports noTargets ps)) rs
+  unfolding isBody isPlaced passAt setKind markFor
+  exports-pass at rs = group-passes s Exports refl refl (λ a b. refl) noTargets (λ p h. entry-made p (name-printable p h) (name-some p h)) at ps rs g
+
+  opens-pass : (at : ℕ) (rs : List (List ℕ)) → checkFrom s one at (groupRecords Opens noTargets ps ++ rs) ≡ checkFrom s one (at + length (group Opens noTargets ps)) rs
+  unfolding isBody isPlaced passAt setKind markFor
+  opens-pass at rs = group-passes s Opens refl refl (λ a b. refl) noTargets (λ p h. entry-made p (name-printable p h) (name-some p h)) at ps rs g
+
+  packages-pass : (at : ℕ) (rs : List (List ℕ)) → checkFrom s one at (groupRecords Package [] ps ++ rs) ≡ checkFrom s one (at + length (group Package [] ps)) rs
+  unfolding isBody isPlaced passAt setKind markFor
+  packages-pass at rs = group-passes s Package refl refl (λ a b. refl) [] (λ p h. package-made p (name-printable p h) (name-some p h)) at ps rs g
+
+  used : length (moduleRecord n) + length baseRecord + length (group Exports noTargets ps) + length (group Opens noTargets ps) + length (group Package [] ps) ≡ length s
+  unfolding automaticRecords
+  used = simp length-append (omega arith)
+
+  shown : records s ≡ moduleRecord n ∷ baseRecord ∷ exported
+  shown = automatic-records n ps (module-name-short n v) (names-short ps g)
+
+  set-taken : length s ≤ 65535 → checkSet s ≡ accepted (0 ∷ []) (length s)
+  unfolding checkSet checkFrom
+  set-taken l =
+      let b : ℕ = length (moduleRecord n) + length baseRecord in
+      let c : ℕ = b + length (group Exports noTargets ps) in
+      let d : ℕ = c + length (group Opens noTargets ps) in
+      rw (le-ltb 65535 (length s) l, shown)
+      (module-starts (baseRecord ∷ exported)
+      ∙ base-passes (length (moduleRecord n)) exported
+      ∙ exports-pass b opened
+      ∙ opens-pass c (groupRecords Package [] ps)
+      ∙ ap (checkFrom s one d) (sym (append-nil (groupRecords Package [] ps)))
+      ∙ packages-pass d []
+      ∙ rw (eq-eqb (d + length (group Package [] ps)) (length s) used))
+
+  first-name : nameAt s 0 ≡ n
+  unfolding automaticRecords moduleRecord moduleName nameBytes
+  first-name =
+      let w : whole s ≡ true =
+      made-whole Module header (baseRecord ++ (group Exports noTargets ps ++ (group Opens noTargets ps ++ group Package [] ps))) (rw length-append (omega (arith, module-name-short n v))) in
+      let cut : take (suc (recordMore s)) s ∷ records (drop (suc (recordMore s)) s) ≡ recordBytes Module header ∷ baseRecord ∷ exported = sym (records-cons s w) ∙ shown in
+      let first : take (suc (recordMore s)) s ≡ recordBytes Module header = cc in
+      name-here s s 0 refl ∙ rw (first, made-body Module header) (name-read n (0 ∷ []))
+
+  set-named : length s ≤ 65535 → map (λ (m : Descriptor). m .name) (modules s) ≡ n ∷ []
+  unfolding accepted tableOf
+  set-named l = sym (good-set s 1 (tableOf (0 ∷ []) (length s)) (set-taken l) .names) ∙ rw first-name
+
+-- ---- what an answer that is no refusal shows
+
+record Answered (name packages : List ℕ) (n : ℕ) : Type 0 where
+  packages-good : checkRecords Packages packages ≡ Records.Good
+  named : isModuleName name ≡ true
+  long : n ≡ length (recordsFor name packages)
+
+validated-name : (m : List ℕ) → validated m ≡ Named.Valid → isModuleName m ≡ true
+unfolding validated
+validated-name m e = go (isModuleName m) e
+  where
+    go : (t : Bool) → pickNamed t Named.Valid (Named.Refused InvalidModuleName) ≡ Named.Valid → t ≡ true
+    go true h = refl
+    go false h = let z : _≡_ {A = ℕ} 0 1 = cc in absurd (omega arith)
+
+derived-valid : (jar : List ℕ) → derived jar ≡ Named.Valid → validated (derivedName jar) ≡ Named.Valid
+unfolding derived
+derived-valid jar e = go (isEmpty (withoutJar (fileName jar)) || isEmpty (derivedName jar)) e
+  where
+    go : (t : Bool) → pickNamed t (Named.Refused InvalidAutomaticModuleName) (validated (derivedName jar)) ≡ Named.Valid → validated (derivedName jar) ≡ Named.Valid
+    go true h = let z : _≡_ {A = ℕ} 0 1 = cc in absurd (omega arith)
+    go false h = h
+
+valid-name : (given : Bool) (jar manifest : List ℕ) → namedFor given jar manifest ≡ Named.Valid → isModuleName (nameFor given jar manifest) ≡ true
+unfolding namedFor nameFor
+valid-name true jar manifest e = validated-name manifest e
+valid-name false jar manifest e = validated-name (derivedName jar) (derived-valid jar e)
+
+answered : (jar : List ℕ) (given : Bool) (manifest packages : List ℕ) (room n : ℕ) → jarAnswer jar given manifest packages room ≡ Bytes n → Answered (nameFor given jar manifest) packages n
+unfolding jarAnswer thenPackages thenName fitted
+answered jar given manifest packages room n e =
+    go (ltb 255 (length jar)) (checkRecords Packages packages) refl (namedFor given jar manifest) refl (ltb room (length s)) e
+  where
+    s : List ℕ
+    s = recordsFor (nameFor given jar manifest) packages
+
+    go : (t : Bool) (a : RecordsAnswer) → checkRecords Packages packages ≡ a → (m : Named) → namedFor given jar manifest ≡ m → (u : Bool)
+        → pickWritten t (Refused (TooLarge 0)) (thenPackages a (thenName m (pickWritten u (Refused (OutputTooShort (length s))) (Bytes (length s))))) ≡ Bytes n → Answered (nameFor given jar manifest) packages n
+    go true a ea m em u h = let z : _≡_ {A = ℕ} 0 1 = cc in absurd (omega arith)
+    go false (Records.Refused x) ea m em u h = let z : _≡_ {A = ℕ} 0 1 = cc in absurd (omega arith)
+    go false Records.Good ea (Named.Refused x) em u h = let z : _≡_ {A = ℕ} 0 1 = cc in absurd (omega arith)
+    go false Records.Good ea Named.Valid em true h = let z : _≡_ {A = ℕ} 0 1 = cc in absurd (omega arith)
+    go false Records.Good ea Named.Valid em false h = record { packages-good = ea; named = valid-name given jar manifest em; long = cc }
+
+-- ---- the theorem
+
+-- the records of a jar are a set of one module, which has the jar's module name
+pub record OneModule (s name : List ℕ) : Type 0 where
+  pub taken : checkSet s ≡ accepted (0 ∷ []) (length s)
+  pub named : map (λ (m : Descriptor). m .name) (modules s) ≡ name ∷ []
+
+-- what the jar reader writes, where it is at most 65,535 bytes, is a set of exactly one module with that name.
+-- `bytes` says that the package records are a byte string
+pub jar-is-set : (jar : List ℕ) (given : Bool) (manifest packages : List ℕ) (room n : ℕ)
+    → ((i : ℕ) → getD packages i 0 < 256)
+    → jarAnswer jar given manifest packages room ≡ Bytes n → n ≤ 65535
+    → OneModule (recordsFor (nameFor given jar manifest) packages) (nameFor given jar manifest)
+unfolding recordsFor
+jar-is-set jar given manifest packages room n bytes e l =
+    let a : Answered (nameFor given jar manifest) packages n = answered jar given manifest packages room n e in
+    let g : allNames isPackageName (ordered (packagesOf packages)) ≡ true = good-packages packages bytes (a .packages-good) in
+    let k : length (automaticRecords (nameFor given jar manifest) (ordered (packagesOf packages))) ≤ 65535 = omega (arith, a .long) in
+    record {
+      taken = set-taken (nameFor given jar manifest) (ordered (packagesOf packages)) (a .named) g k;
+      named = set-named (nameFor given jar manifest) (ordered (packagesOf packages)) (a .named) g k;
+    }

@@ -1,0 +1,81 @@
+#!/usr/bin/env python3
+"""Writes the inputs of the program `limits`: tests/limits.py crates/limits/data"""
+import os
+import sys
+
+
+def name(s):
+    return bytes([len(s)]) + s
+
+
+def record(mark, body):
+    return mark + len(body).to_bytes(2, "big") + body
+
+
+def module(n):
+    return record(b"MO", b"\0\0\0" + name(n) + b"\0")
+
+
+def requires(n):
+    return record(b"RQ", b"\0\0" + name(n) + b"\0")
+
+
+def package(n):
+    return record(b"PK", name(n))
+
+
+def filled(size):
+    """One module and packages of 255 bytes, the last one as long as fits: `size` bytes in all."""
+    s = module(b"java.base")
+    k = 0
+    while size - len(s) > 260 + 6:
+        s += package(b"%0255d" % k)
+        k += 1
+    while size - len(s) > 260:
+        s += package(b"p")
+    rest = size - len(s)
+    s += package(b"q" * (rest - 5))
+    assert len(s) == size
+    return s
+
+
+def many(count):
+    return b"".join(module(b"m%03d" % i) for i in range(count))
+
+
+base = module(b"java.base")
+listing = (
+    base + package(b"java/lang")
+    + module(b"page.core") + record(b"RQ", b"\0\x20" + name(b"page.frames") + b"\0") + record(b"US", name(b"page/Reader"))
+    + module(b"page.foot") + requires(b"page.frames")
+    + record(b"PV", name(b"page/Reader") + b"\0\1" + name(b"page/foot/Impl")) + package(b"page/foot")
+    + module(b"page.frames") + package(b"page/frame")
+)
+limit = record(b"LM", b"\0\1" + name(b"a"))
+files = {
+    "set-listing": listing,
+    "set-256-modules": many(256),
+    "set-257-modules": many(257),
+    "set-65535-bytes": filled(65535),
+    "set-65536-bytes": filled(65536),
+    "set-cut-off": base + package(b"java/lang")[:-1],
+    "set-unknown-mark": base + record(b"XX", b""),
+    "set-root-in-set": base + record(b"RT", name(b"a")),
+    "set-no-module-first": package(b"java/lang") + base,
+    "set-requires-unnamed": base + requires(b"ALL-UNNAMED"),
+    "set-second-main-class": base + record(b"MC", name(b"A")) + record(b"MC", name(b"A")),
+    "set-repeated": base + module(b"a") + package(b"a") + module(b"java.base"),
+    "set-unnamed": base + module(b"ALL-UNNAMED"),
+    "request-second-limit": record(b"RT", name(b"a")) + limit + limit,
+    "request-module": module(b"a"),
+    "packages-export": package(b"b") + record(b"EX", name(b"b") + b"\0\0"),
+    "packages-three": package(b"b/c") + package(b"a") + package(b"b") + package(b"a"),
+    "jar-255": b"a" * 251 + b".jar",
+    "jar-256": b"a" * 252 + b".jar",
+    "jar-foot-notes": b"lib/foot-notes-2.4.jar",
+    "jar-two-versions": b"a-1-2.jar",
+    "jar-nothing": b".jar",
+}
+for f, s in files.items():
+    with open(os.path.join(sys.argv[1], f), "wb") as out:
+        out.write(s)
