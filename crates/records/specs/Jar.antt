@@ -64,6 +64,11 @@ pub record JarRead (jar : List ℕ) (given : Bool) (manifest packages before aft
   pub answer : r ≡ jarAnswer jar given manifest packages (length before)
   pub output : after ≡ outputAfter before r (recordsFor (nameFor given jar manifest) packages)
 
+-- the same where the lengths and the package records are good
+pub record NamedRead (named : Named) (name packages before after : List ℕ) (r : Written) : Type 0 where
+  pub answer : r ≡ thenName named (fitted (length before) (recordsFor name packages))
+  pub output : after ≡ outputAfter before r (recordsFor name packages)
+
 -- the first `count` entries of the table tell the packages in byte order without repeats
 pub record Ordered (packages table : List ℕ) (count : ℕ) : Type 0 where
   pub names-are : map (nameIn packages) (take count table) ≡ ordered (packagesOf packages)
@@ -71,7 +76,7 @@ pub record Ordered (packages table : List ℕ) (count : ℕ) : Type 0 where
   pub within : count ≤ length table
   pub most : count ≤ 16384
 
--- the same where the name and the package records are good
+-- the same where the name is good too
 pub record Fitted (name packages before after : List ℕ) (r : Written) : Type 0 where
   pub answer : r ≡ fitted (length before) (recordsFor name packages)
   pub output : after ≡ outputAfter before r (recordsFor name packages)

@@ -19,6 +19,8 @@ use Rattle.records.specs.declared.set.Checked.{Checked}
 use Rattle.records.specs.declared.set.SetAnswer.{SetAnswer}
 use Rattle.records.specs.declared.set.SetAnswer.the-variants.{Modules}
 use Rattle.records.specs.declared.set.SetAnswer.the-variants as Set
+use Rattle.records.specs.declared.request.Row.{Row}
+use Rattle.records.specs.declared.request.Row.the-variants.{Bad, Limit, Pass}
 use Rattle.records.specs.declared.request.RecordsAnswer.{RecordsAnswer}
 use Rattle.records.specs.declared.request.RecordsAnswer.the-variants.{Good, Refused}
 
@@ -45,14 +47,25 @@ isLimit AddExports = false
 isLimit AddOpens = false
 isLimit Other = false
 
--- the records from `at` on: each is of a kind that this input knows, has a well-formed body and is no second LM; the last
--- ends where the input does (1). `limited` says that an LM was passed.
+abbrev pub pickRow : Bool → Row → Row → Row
+pickRow true a b = a
+pickRow false a b = b
+
+-- a record of kind k and body b, where `limited` says that an LM was passed: its body is well-formed, and it is no second LM
+unfoldable pub rowOf : Bool → Kind → List ℕ → Row
+rowOf limited k b = pickRow (isBody k b && not (limited && isLimit k)) (pickRow (isLimit k) Limit Pass) Bad
+
+unfoldable pub rowOn : Row → Bool → RecordsAnswer → (Bool → RecordsAnswer) → RecordsAnswer
+rowOn Bad limited bad f = bad
+rowOn Limit limited bad f = f true
+rowOn Pass limited bad f = f limited
+
+-- the records from `at` on; the last ends where the input does (1)
 unfoldable pub checkRecordsFrom : Input → ℕ → Bool → ℕ → List (List ℕ) → RecordsAnswer
 checkRecordsFrom i n limited at [] = pickAnswer (eqb at n) Good (Refused (Malformed i at))
 checkRecordsFrom i n limited at (r ∷ rs) =
-    pickAnswer (isBody (kindIn i (markOf r)) (bodyOf r) && not (limited && isLimit (kindIn i (markOf r))))
-    (checkRecordsFrom i n (limited || isLimit (kindIn i (markOf r))) (at + length r) rs)
-    (Refused (Malformed i at))
+    rowOn (rowOf limited (kindIn i (markOf r)) (bodyOf r)) limited (Refused (Malformed i at))
+    (λ limited′. checkRecordsFrom i n limited′ (at + length r) rs)
 
 -- the length first (2), then the records
 unfoldable pub checkRecords : Input → List ℕ → RecordsAnswer

@@ -30,18 +30,17 @@ pub fn before(a: &[u8], b: &[u8]) -> bool
         if b.len() <= i {
             return false;
         }
-        if a[i] < b[i] {
+        let x = a[i];
+        let y = b[i];
+        if x < y {
             return true;
         }
-        if b[i] < a[i] {
+        if y < x {
             return false;
         }
         i += 1;
     }
-    if i < b.len() {
-        return true;
-    }
-    false
+    i < b.len()
 }
 
 // The byte at i, 0 where there is none.

@@ -2,7 +2,8 @@
 ghost use mathlib.Core.Path.{_≡_};
 ghost use Prim.Native.Nat.{_≤_};
 ghost use lib.ListN.{length};
-ghost use Rattle.records.specs.Jar.{Ordered, Fitted, JarRead};
+ghost use Rattle.records.specs.Automatic.{derivedName, derived, validated};
+ghost use Rattle.records.specs.Jar.{Ordered, Fitted, NamedRead, JarRead};
 use crate::automatic::Named;
 use crate::automatic::derive_automatic_module_name;
 use crate::automatic::validate_module_name;
@@ -52,6 +53,35 @@ fn write_fitted(name: &[u8], packages: &[u8], out: &mut [u8]) -> Written
     write_ordered(name, packages, &table, count, out)
 }
 
+// The same for a name that the manifest gives.
+fn write_given(manifest: &[u8], packages: &[u8], out: &mut [u8]) -> Written
+    requires { ⌜ length (now packages) ≤ 65535 ⌝ }
+    ensures { λ r. ⌜ NamedRead (validated (now (manifest .entry))) (now (manifest .entry)) (now (packages .entry)) (now (out .entry)) (now (out .exit)) r ⌝ }
+{
+    if validate_module_name(manifest) {
+        return write_fitted(manifest, packages, out);
+    }
+    Written::Refused(ModuleError::InvalidModuleName)
+}
+
+// The same for the name that is derived from the jar's.
+fn write_derived(jar: &[u8], packages: &[u8], out: &mut [u8]) -> Written
+    requires { ⌜ length (now jar) ≤ 255 ⌝ }
+    requires { ⌜ length (now packages) ≤ 65535 ⌝ }
+    ensures { λ r. ⌜ NamedRead (derived (now (jar .entry))) (derivedName (now (jar .entry))) (now (packages .entry)) (now (out .entry)) (now (out .exit)) r ⌝ }
+{
+    let d = derive_automatic_module_name(jar);
+    let answer = d.answer;
+    match answer {
+        Named::Refused(e) => Written::Refused(e),
+        Named::Valid => {
+            let text = d.text;
+            let bytes = text.bytes;
+            write_fitted(head(&bytes, text.len), packages, out)
+        }
+    }
+}
+
 // The records of an automatic module: its name is the manifest's where one is given, else derived from the name of the jar.
 // Nothing is written on a refusal.
 pub fn automatic_from_jar_name(
@@ -70,22 +100,9 @@ pub fn automatic_from_jar_name(
         RecordsAnswer::Refused(e) => Written::Refused(e),
         RecordsAnswer::Good => {
             if given {
-                if validate_module_name(manifest) {
-                    return write_fitted(manifest, packages, out);
-                }
-                return Written::Refused(ModuleError::InvalidModuleName);
+                return write_given(manifest, packages, out);
             }
-            let d = derive_automatic_module_name(jar);
-            let answer = d.answer;
-            match answer {
-                Named::Refused(e) => Written::Refused(e),
-                Named::Valid => {
-                    let text = d.text;
-                    let bytes = text.bytes;
-                    let len = text.len;
-                    write_fitted(head(&bytes, len), packages, out)
-                }
-            }
+            write_derived(jar, packages, out)
         }
     }
 }

@@ -2,8 +2,8 @@
 ghost use mathlib.Core.Path.{_≡_};
 ghost use lib.ListN.{take};
 ghost use mathlib.Core.List.{map};
-ghost use Rattle.records.specs.Record.{bodies};
-ghost use Rattle.records.specs.Request.{isLimit, checkRecords, checkInputs, requestOf, isPermitted, grantOf, hasRead, hasGrant};
+ghost use Rattle.records.specs.Record.{kindIn, bodies};
+ghost use Rattle.records.specs.Request.{rowOf, checkRecords, checkInputs, requestOf, isPermitted, grantOf, hasRead, hasGrant};
 use crate::bytes::part;
 use crate::bytes::same;
 use crate::error::Input;
@@ -27,13 +27,33 @@ pub enum RecordsAnswer {
     Refused(ModuleError),
 }
 
-fn is_limit(kind: Kind) -> bool
-    ensures { λ r. ⌜ r ≡ isLimit kind ⌝ }
+// What one record leads to.
+pub enum Row {
+    Bad,
+    // The record is an LM.
+    Limit,
+    Pass,
+}
+
+// The record with this mark and body, where `limited` says that an LM was passed.
+fn judge(input: Input, limited: bool, mark: usize, body: &[u8]) -> Row
+    ensures { λ r. ⌜ r ≡ rowOf limited (kindIn input mark) (now (body .entry)) ⌝ }
 {
-    match kind {
-        Kind::LimitModules => true,
-        _ => false,
+    let kind = kind_in(input, mark);
+    if is_body(kind, body) {
+        match kind {
+            Kind::LimitModules => {
+                if limited {
+                    return Row::Bad;
+                }
+                return Row::Limit;
+            }
+            _ => {
+                return Row::Pass;
+            }
+        }
     }
+    Row::Bad
 }
 
 // The check of a request, or of package records: the length, then the records from front to back.
@@ -54,17 +74,16 @@ pub fn check_records(input: Input, s: &[u8]) -> RecordsAnswer
                 len,
                 next,
             } => {
-                let kind = kind_in(input, mark);
-                if !is_body(kind, part(s, start, len)) {
-                    return RecordsAnswer::Refused(ModuleError::Malformed(input, at));
-                }
-                if is_limit(kind) {
-                    if limited {
+                c = next;
+                match judge(input, limited, mark, part(s, start, len)) {
+                    Row::Bad => {
                         return RecordsAnswer::Refused(ModuleError::Malformed(input, at));
                     }
-                    limited = true;
+                    Row::Limit => {
+                        limited = true;
+                    }
+                    Row::Pass => {}
                 }
-                c = next;
             }
             Step::Bad => {
                 return RecordsAnswer::Refused(ModuleError::Malformed(input, at));

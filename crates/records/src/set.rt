@@ -1,7 +1,8 @@
 // A set of modules: its check, and the block of each module.
 ghost use mathlib.Core.Path.{_≡_};
 ghost use Prim.Native.Nat.{_≤_};
-ghost use lib.ListN.{length, getD, take};
+ghost use lib.ListN.{length, getD, take, drop};
+ghost use Rattle.records.specs.Record.{setKind};
 ghost use Rattle.records.specs.Set.{isPlaced, admitAt, passAt, judgeAt, refused, checkSet, blockAt};
 use crate::bytes::part;
 use crate::bytes::same;
@@ -96,17 +97,19 @@ fn judge(
     count: usize,
     main: bool,
     at: usize,
-    kind: Kind,
-    body: &[u8],
+    mark: usize,
+    start: usize,
+    len: usize,
 ) -> Verdict
     requires { ⌜ count ≤ length (now starts) ⌝ }
-    ensures { λ r. ⌜ r ≡ judgeAt (now (set .entry)) (take count (now (starts .entry))) main at kind (now (body .entry)) ⌝ }
+    ensures { λ r. ⌜ r ≡ judgeAt (now (set .entry)) (take count (now (starts .entry))) main at (setKind mark) (take len (drop start (now (set .entry)))) ⌝ }
 {
+    let kind = set_kind(mark);
+    let body = part(set, start, len);
     if is_placed(count, main, kind) {
         if is_body(kind, body) {
             return pass(set, starts, count, at, kind, body);
         }
-        return Verdict::Stop(ModuleError::Malformed(Input::Set, at));
     }
     Verdict::Stop(ModuleError::Malformed(Input::Set, at))
 }
@@ -141,8 +144,7 @@ pub fn check_set(set: &[u8]) -> Checked
                 len,
                 next,
             } => {
-                let b = part(set, start, len);
-                match judge(set, &starts, count, main, at, set_kind(mark), b) {
+                match judge(set, &starts, count, main, at, mark, start, len) {
                     Verdict::Stop(e) => {
                         return refuse(e);
                     }

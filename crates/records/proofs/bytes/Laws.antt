@@ -9,7 +9,7 @@ use lib.ListN.{length, getD, take, drop, drop-of-length-le, List·getD-eq-defaul
 use native.Mathlib.Nat.{le-of-lt, add-assoc}
 use lib.Seq.{drop-cons, take-all, getD-drop}
 use lib.Dec.{ltb, eqb}
-use borrow.Author.Tests.{eq-eqb, ne-eqb, lt-ltb, le-ltb, eqb-true}
+use borrow.Author.Tests.{eq-eqb, ne-eqb, lt-ltb, le-ltb, eqb-true, ltb-true, ltb-false}
 use Rattle.records.specs.Bytes.{sameBytes, beforeBytes, u16At}
 
 -- ---- parts
@@ -141,15 +141,15 @@ module _ {a b : List ℕ} {i : ℕ} (h : BeforeAt a b i) where
     left = h .left ∙ rw (add-one, drop-cons a i 0 la, drop-cons b i 0 lb, le-ltb (getD a i 0) (getD b i 0) l1, eq-eqb (getD a i 0) (getD b i 0) (omega arith));
   }
 
-  pub before-long : length a ≤ i → i < length b → true ≡ beforeBytes a b
+  pub before-end : length a ≤ i → ltb i (length b) ≡ beforeBytes a b
   unfolding beforeBytes
-  before-long la lb = sym (h .left ∙ rw (drop-of-length-le a la, drop-cons b i 0 lb))
+  before-end la = sym (h .left ∙ rw (drop-of-length-le a la) (go (ltb i (length b)) refl))
+    where
+      go : (t : Bool) → ltb i (length b) ≡ t → beforeBytes [] (drop i b) ≡ t
+      go true e = rw (drop-cons b i 0 (ltb-true i (length b) e))
+      go false e = rw (drop-of-length-le b (ltb-false i (length b) e))
 
-  pub before-done : length a ≤ i → length b ≤ i → false ≡ beforeBytes a b
-  unfolding beforeBytes
-  before-done la lb = sym (h .left ∙ rw (drop-of-length-le a la, drop-of-length-le b lb))
-
-pub ruleset before-laws = (before-start, before-short, before-less, before-more, before-next, before-long, before-done)
+pub ruleset before-laws = (before-start, before-short, before-less, before-more, before-next, before-end)
 
 -- ---- a part
 

@@ -11,7 +11,7 @@ use Rattle.records.specs.Automatic.{isModuleName, derivedName, derived, 
 use Rattle.records.specs.Request.{checkRecords}
 use Rattle.records.specs.Order.{nameIn, ordered, packagesOf, PackagesOrdered}
 use Rattle.records.specs.Output.{written, packagesSize, automaticRecords}
-use Rattle.records.specs.Jar.{nameFor, namedFor, recordsFor, pickWritten, fitted, thenName, thenPackages, jarAnswer, outputAfter, JarRead, Ordered, Fitted}
+use Rattle.records.specs.Jar.{nameFor, namedFor, recordsFor, pickWritten, fitted, thenName, thenPackages, jarAnswer, outputAfter, JarRead, NamedRead, Ordered, Fitted}
 use Rattle.records.specs.declared.automatic.Derived.{Derived}
 use Rattle.records.specs.declared.automatic.Named.{Named}
 use Rattle.records.specs.declared.automatic.Named.the-variants as Named
@@ -61,6 +61,53 @@ size-fits n z count l m c = omega arith
 
 pub ruleset fitted-laws = (fitted-room, fitted-short, fitted-bytes, size-fits)
 
+-- ---- a name that is given, and one that is derived
+
+module _ (m s o : List ℕ) (v : Bool) (ev : v ≡ isModuleName m) where
+  pub given-bad : v ≡ false → NamedRead (validated m) m s o o (Refused InvalidModuleName)
+  unfolding validated thenName outputAfter
+  given-bad f = record { answer = sym (rw (← ev, f)); output = refl }
+
+  pub given-short : v ≡ true → length m ≤ 255
+  given-short t = module-name-short m (sym ev ∙ t)
+
+  pub given-read : v ≡ true → (o₁ : List ℕ) (r : Written) → Fitted m s o o₁ r → NamedRead (validated m) m s o o₁ r
+  unfolding validated thenName
+  given-read t o₁ r f = record { answer = f .answer ∙ sym (rw (← ev, t)); output = f .output }
+
+pub ruleset given-laws = (given-bad, given-short, given-read)
+
+module _ (jar s o : List ℕ) (l : length jar ≤ 255) (d : Derived) (ed : d ≡ derivedText jar) where
+  text : d ≡ record { answer = derived jar; text = textOf (cond (isValid (derived jar)) (derivedName jar) []) }
+  unfolding derivedText
+  text = ed ∙ rw (le-ltb 255 (length jar) l)
+
+  answer-is : d .answer ≡ derived jar
+  answer-is = ap (λ (x : Derived). x .answer) text
+
+  pub derived-bad : (e : ModuleError) → d .answer ≡ Named.Refused e → NamedRead (derived jar) (derivedName jar) s o o (Refused e)
+  unfolding thenName outputAfter
+  derived-bad e h = record { answer = sym (rw (← answer-is, h)); output = refl }
+
+  module _ (h : d .answer ≡ Named.Valid) (n : List ℕ) (en : n ≡ take (d .text .len) (d .text .bytes)) where
+    text-is : d .text ≡ textOf (derivedName jar)
+    unfolding isValid
+    text-is = ap (λ (x : Derived). x .text) text ∙ rw (← answer-is, h)
+
+    named : n ≡ derivedName jar
+    named = en ∙ rw text-is (text-take (derivedName jar))
+
+    pub derived-short : length n ≤ 255
+    derived-short = rw named (omega (arith, derived-name-length jar, l))
+
+    pub derived-read : (o₁ : List ℕ) (r : Written) → Fitted n s o o₁ r → NamedRead (derived jar) (derivedName jar) s o o₁ r
+    unfolding thenName
+    derived-read o₁ r f =
+        let q : Fitted (derivedName jar) s o o₁ r = rw named at f in
+        record { answer = q .answer ∙ sym (rw (← answer-is, h)); output = q .output }
+
+pub ruleset derived-laws = (derived-bad, derived-short, derived-read)
+
 -- ---- the whole
 
 module _ (jar : List ℕ) (given : Bool) (m s o : List ℕ) where
@@ -81,46 +128,12 @@ module _ (jar : List ℕ) (given : Bool) (m s o : List ℕ) where
       unfolding jarAnswer thenPackages
       then-is = rw (le-ltb 255 (length jar) l, ← ea, g)
 
-      module _ (eg : given ≡ true) (v : Bool) (ev : v ≡ isModuleName m) where
-        pub jar-given-bad : v ≡ false → JarRead jar given m s o o (Refused InvalidModuleName)
-        unfolding namedFor validated thenName outputAfter
-        jar-given-bad f = record { answer = sym (then-is ∙ rw (eg, ← ev, f)); output = refl }
+      pub jar-given : (o₁ : List ℕ) (r : Written) → given ≡ true → NamedRead (validated m) m s o o₁ r → JarRead jar given m s o o₁ r
+      unfolding namedFor nameFor
+      jar-given o₁ r e f = record { answer = f .answer ∙ sym (then-is ∙ rw e); output = f .output ∙ rw e }
 
-        pub jar-given-short : v ≡ true → length m ≤ 255
-        jar-given-short t = module-name-short m (sym ev ∙ t)
+      pub jar-derived : (o₁ : List ℕ) (r : Written) → given ≡ false → NamedRead (derived jar) (derivedName jar) s o o₁ r → JarRead jar given m s o o₁ r
+      unfolding namedFor nameFor
+      jar-derived o₁ r e f = record { answer = f .answer ∙ sym (then-is ∙ rw e); output = f .output ∙ rw e }
 
-        pub jar-given : v ≡ true → (o₁ : List ℕ) (r : Written) → Fitted m s o o₁ r → JarRead jar given m s o o₁ r
-        unfolding namedFor nameFor validated thenName
-        jar-given t o₁ r f = record { answer = f .answer ∙ sym (then-is ∙ rw (eg, ← ev, t)); output = f .output ∙ rw eg }
-
-      module _ (eg : given ≡ false) (d : Derived) (ed : d ≡ derivedText jar) where
-        text : d ≡ record { answer = derived jar; text = textOf (cond (isValid (derived jar)) (derivedName jar) []) }
-        unfolding derivedText
-        text = ed ∙ rw (le-ltb 255 (length jar) l)
-
-        answer-is : d .answer ≡ derived jar
-        answer-is = ap (λ (x : Derived). x .answer) text
-
-        pub jar-derived-bad : (e : ModuleError) → d .answer ≡ Named.Refused e → JarRead jar given m s o o (Refused e)
-        unfolding namedFor thenName outputAfter
-        jar-derived-bad e h = record { answer = sym (then-is ∙ rw (eg, ← answer-is, h)); output = refl }
-
-        module _ (h : d .answer ≡ Named.Valid) where
-          text-is : d .text ≡ textOf (derivedName jar)
-          unfolding isValid
-          text-is = ap (λ (x : Derived). x .text) text ∙ rw (← answer-is, h)
-
-          module _ (n : List ℕ) (en : n ≡ take (d .text .len) (d .text .bytes)) where
-            named : n ≡ derivedName jar
-            named = en ∙ rw text-is (text-take (derivedName jar))
-
-            pub jar-derived-short : length n ≤ 255
-            jar-derived-short = rw named (omega (arith, derived-name-length jar, l))
-
-            pub jar-derived : (o₁ : List ℕ) (r : Written) → Fitted n s o o₁ r → JarRead jar given m s o o₁ r
-            unfolding namedFor nameFor thenName
-            jar-derived o₁ r f =
-                let q : Fitted (derivedName jar) s o o₁ r = rw named at f in
-                record { answer = q .answer ∙ sym (then-is ∙ rw (eg, ← answer-is, h)); output = q .output ∙ rw eg }
-
-pub ruleset jar-laws = (jar-long, jar-packages, jar-short, jar-given-bad, jar-given-short, jar-given, jar-derived-bad, jar-derived-short, jar-derived)
+pub ruleset jar-laws = (jar-long, jar-packages, jar-short, jar-given, jar-derived)

@@ -13,7 +13,7 @@ use denote.Enum.Declared.{tagOf}
 use Rattle.records.specs.Bytes.{sameBytes}
 use Rattle.records.specs.Name.{javaBase, nameOf, afterName, listOf, memName}
 use Rattle.records.specs.Record.{markOf, bodyOf, records, stepAt, markFor, kindIn, isBody, isOf, bodiesIn, bodies, nextOf, begins, firstOf}
-use Rattle.records.specs.Request.{pickAnswer, isLimit, checkRecordsFrom, checkRecords, thenRequest, checkInputs, readOf, grantOf, limitOf, requestOf, withinLimit, isPermitted, hasRead, hasGrant}
+use Rattle.records.specs.Request.{pickAnswer, isLimit, pickRow, rowOf, rowOn, checkRecordsFrom, checkRecords, thenRequest, checkInputs, readOf, grantOf, limitOf, requestOf, withinLimit, isPermitted, hasRead, hasGrant}
 use Rattle.records.specs.declared.error.Input.{Input}
 use Rattle.records.specs.declared.error.Input.the-variants.{Request}
 use Rattle.records.specs.declared.error.ModuleError.{ModuleError}
@@ -30,6 +30,8 @@ use Rattle.records.specs.declared.record.Next.{Next}
 use Rattle.records.specs.declared.record.Next.the-variants.{Body, Nothing}
 use Rattle.records.specs.declared.record.Kind.{Kind}
 use Rattle.records.specs.declared.record.Kind.the-variants.{Module, Requires, Exports, Opens, Uses, Provides, Package, MainClass, Root, LimitModules, AddReads, AddExports, AddOpens, Other}
+use Rattle.records.specs.declared.request.Row.{Row}
+use Rattle.records.specs.declared.request.Row.the-variants as Row
 use Rattle.records.specs.declared.request.RecordsAnswer.{RecordsAnswer}
 use Rattle.records.specs.declared.request.RecordsAnswer.the-variants.{Good, Refused}
 use Rattle.records.proofs.record.Kind.{the-type}
@@ -37,17 +39,13 @@ use Rattle.records.proofs.record.Laws.{Stepped, stepped, stepped-bad, s
 use Rattle.records.proofs.record.Bodies.{bodies-next, bodies-end}
 use Rattle.records.proofs.record.Search.{firstBody, isFound, found-yes, found-no}
 
--- ---- the kind LM
-
-pub limit-yes : (k : Kind) → k ≡ LimitModules → true ≡ isLimit k
-unfolding isLimit
-limit-yes k e = cc
+-- ---- one record
 
 -- all kinds but LM
 abbrev pub others : List ℕ
 others = 0 ∷ 1 ∷ 2 ∷ 3 ∷ 4 ∷ 5 ∷ 6 ∷ 7 ∷ 8 ∷ 10 ∷ 11 ∷ 12 ∷ 13 ∷ []
 
-pub limit-no : (k : Kind) → OneOf others (tagOf the-type k) → false ≡ isLimit k
+limit-no : (k : Kind) → OneOf others (tagOf the-type k) → isLimit k ≡ false
 unfolding isLimit
 limit-no Module h = refl
 limit-no Requires h = refl
@@ -64,6 +62,30 @@ limit-no AddExports h = refl
 limit-no AddOpens h = refl
 limit-no Other h = refl
 
+and-false : (b : Bool) → (b && false) ≡ false
+and-false true = refl
+and-false false = refl
+
+module _ (limited : Bool) (i : Input) (mark : ℕ) (k : Kind) (ek : k ≡ kindIn i mark) (b : List ℕ) (q : Bool) (eq : q ≡ isBody k b) where
+  pub row-bad : q ≡ false → Row.Bad ≡ rowOf limited (kindIn i mark) b
+  unfolding rowOf
+  row-bad e = sym (rw (← ek, ← eq, e))
+
+  module _ (e : q ≡ true) where
+    pub row-pass : OneOf others (tagOf the-type k) → Row.Pass ≡ rowOf limited (kindIn i mark) b
+    unfolding rowOf
+    row-pass o = sym (rw (← ek, ← eq, e, limit-no k o, and-false limited))
+
+    pub row-twice : k ≡ LimitModules → limited ≡ true → Row.Bad ≡ rowOf limited (kindIn i mark) b
+    unfolding rowOf isLimit
+    row-twice m l = let z : isLimit k ≡ true = rw m in sym (rw (← ek, ← eq, e, z, l))
+
+    pub row-limit : k ≡ LimitModules → limited ≡ false → Row.Limit ≡ rowOf limited (kindIn i mark) b
+    unfolding rowOf isLimit
+    row-limit m l = let z : isLimit k ≡ true = rw m in sym (rw (← ek, ← eq, e, z, l))
+
+pub ruleset row-laws = (row-bad, row-pass, row-twice, row-limit)
+
 -- ---- the check
 
 -- the records before `at` pass, `limited` says whether an LM is among them, and those from `at` on decide
@@ -79,38 +101,29 @@ pub check-start : (i : Input) (s : List ℕ) → length s ≤ 65535 → CheckAt 
 unfolding checkRecords
 check-start i s l = record { within = omega arith; left = rw (le-ltb 65535 (length s) l) }
 
-and-false : (b : Bool) → (b && false) ≡ false
-and-false true = refl
-and-false false = refl
-
-or-false : (b : Bool) → (b || false) ≡ b
-or-false true = refl
-or-false false = refl
-
 module _ (i : Input) (s : List ℕ) (limited : Bool) (at : ℕ) (h : CheckAt i s limited at) (step : Step) (es : step ≡ stepAt s at) where
   module _ (mark start len : ℕ) (next : Cursor) (er : step ≡ Record mark start len next)
-      (k : Kind) (ek : k ≡ kindIn i mark) (b : List ℕ) (eb : b ≡ take len (drop start s)) (q : Bool) (eq : q ≡ isBody k b) where
+      (b : List ℕ) (eb : b ≡ take len (drop start s)) (v : Row) (ev : v ≡ rowOf limited (kindIn i mark) b) where
     p : Stepped s at mark start len next
     p = stepped s at step es mark start len next er
 
-    turn : checkRecords i s ≡ pickAnswer (q && not (limited && isLimit k)) (checkRecordsFrom i (length s) (limited || isLimit k) (next .at) (records (drop (next .at) s))) (Refused (Malformed i at))
+    turn : checkRecords i s ≡ rowOn v limited (Refused (Malformed i at)) (λ l. checkRecordsFrom i (length s) l (next .at) (records (drop (next .at) s)))
     unfolding checkRecordsFrom
     turn =
         h .left
-        ∙ rw (records-next s at mark start len next p, front-mark s at mark start len next p, front-body s at mark start len next p, front-length s at mark start len next p, eq, ek, eb)
+        ∙ rw (records-next s at mark start len next p, front-mark s at mark start len next p, front-body s at mark start len next p, front-length s at mark start len next p, ev, eb)
 
-    pub check-body : not q ≡ true → Refused (Malformed i at) ≡ checkRecords i s
-    check-body e = sym (turn ∙ rw (not-true q e))
+    pub check-row : v ≡ Row.Bad → Refused (Malformed i at) ≡ checkRecords i s
+    unfolding rowOn
+    check-row e = sym (turn ∙ rw e)
 
-    module _ (e : not q ≡ false) (l : Bool) (el : l ≡ isLimit k) where
-      pub check-twice : l ≡ true → limited ≡ true → Refused (Malformed i at) ≡ checkRecords i s
-      check-twice et em = sym (turn ∙ rw (not-false q e, ← el, et, em))
+    pub check-limit : v ≡ Row.Limit → CheckAt i s true (next .at)
+    unfolding rowOn
+    check-limit e = record { within = omega (arith, p .next-is, p .room); left = turn ∙ rw e }
 
-      pub check-limit : l ≡ true → limited ≡ false → CheckAt i s true (next .at)
-      check-limit et em = record { within = omega (arith, p .next-is, p .room); left = turn ∙ rw (not-false q e, ← el, et, em) }
-
-      pub check-pass : l ≡ false → CheckAt i s limited (next .at)
-      check-pass et = record { within = omega (arith, p .next-is, p .room); left = turn ∙ rw (not-false q e, ← el, et, and-false, or-false) }
+    pub check-pass : v ≡ Row.Pass → CheckAt i s limited (next .at)
+    unfolding rowOn
+    check-pass e = record { within = omega (arith, p .next-is, p .room); left = turn ∙ rw e }
 
   pub check-bad : step ≡ Bad → Refused (Malformed i at) ≡ checkRecords i s
   unfolding checkRecordsFrom
@@ -124,7 +137,7 @@ module _ (i : Input) (s : List ℕ) (limited : Bool) (at : ℕ) (h : CheckAt i s
       let l : length s ≤ at = stepped-end s at step es e in
       sym (h .left ∙ rw (records-end s at l, eq-eqb at (length s) (omega (arith, h .within))))
 
-pub ruleset check-laws = (check-long, check-start, check-body, check-twice, check-limit, check-pass, check-bad, check-end, step-less)
+pub ruleset check-laws = (check-long, check-start, check-row, check-limit, check-pass, check-bad, check-end, step-less)
 
 -- ---- what a good check shows
 
@@ -149,25 +162,36 @@ good-long i s e = go (ltb 65535 (length s)) refl
     go true eb = let z : _≡_ {A = ℕ} 0 1 = cc in absurd (omega arith)
     go false eb = rw eb at e
 
+clash : {X : Type 0} → _≡_ {A = ℕ} 0 1 → X
+clash e = absurd (omega arith)
+
+-- a record that is not bad has a well-formed body
+row-good : (limited : Bool) (k : Kind) (b : List ℕ) (v : Row) → rowOf limited k b ≡ v → (v ≡ Row.Bad → ⊥) → isBody k b ≡ true
+unfolding rowOf
+row-good limited k b v e n = go (isBody k b) refl e
+  where
+    go : (q : Bool) → isBody k b ≡ q → pickRow (q && not (limited && isLimit k)) (pickRow (isLimit k) Row.Limit Row.Pass) Row.Bad ≡ v → q ≡ true
+    go true eq h = refl
+    go false eq h = absurd (n (sym h))
+
 module _ (i : Input) (k : Kind) (ek : kindIn i (markFor k) ≡ k) where
   good-from : (n : ℕ) (limited : Bool) (at : ℕ) (rs : List (List ℕ)) → checkRecordsFrom i n limited at rs ≡ Good → allBodies (isBody k) (bodiesIn k rs) ≡ true
-  unfolding checkRecordsFrom allBodies bodiesIn isOf
+  unfolding checkRecordsFrom allBodies bodiesIn isOf rowOn
   good-from n limited at [] e = refl
-  good-from n limited at (r ∷ rs) e =
-      go (isBody (kindIn i (markOf r)) (bodyOf r)) refl (not (limited && isLimit (kindIn i (markOf r)))) refl (eqb (markOf r) (markFor k)) refl
-      (good-from n (limited || isLimit (kindIn i (markOf r))) (at + length r) rs)
+  good-from n limited at (r ∷ rs) e = by-row (rowOf limited (kindIn i (markOf r)) (bodyOf r)) refl (λ l. good-from n l (at + length r) rs) e
     where
-      go : (b : Bool) → isBody (kindIn i (markOf r)) (bodyOf r) ≡ b → (m : Bool) → not (limited && isLimit (kindIn i (markOf r))) ≡ m
-          → (o : Bool) → eqb (markOf r) (markFor k) ≡ o
-          → (checkRecordsFrom i n (limited || isLimit (kindIn i (markOf r))) (at + length r) rs ≡ Good → allBodies (isBody k) (bodiesIn k rs) ≡ true)
-          → allBodies (isBody k) (bodiesIn k (r ∷ rs)) ≡ true
-      go true eb true em true eo ih =
+      more : isBody (kindIn i (markOf r)) (bodyOf r) ≡ true → allBodies (isBody k) (bodiesIn k rs) ≡ true → (o : Bool) → eqb (markOf r) (markFor k) ≡ o → allBodies (isBody k) (bodiesIn k (r ∷ rs)) ≡ true
+      more eb ih true eo =
           let w : kindIn i (markOf r) ≡ k = ap (kindIn i) (eqb-true (markOf r) (markFor k) eo) ∙ ek in
           let v : isBody k (bodyOf r) ≡ true = rw w at eb in
-          rw (eo, v) (ih (rw (eb, em) at e))
-      go true eb true em false eo ih = rw eo (ih (rw (eb, em) at e))
-      go true eb false em o eo ih = let z : _≡_ {A = ℕ} 0 1 = cc in absurd (omega arith)
-      go false eb m em o eo ih = let z : _≡_ {A = ℕ} 0 1 = cc in absurd (omega arith)
+          rw (eo, v) ih
+      more eb ih false eo = rw eo ih
+
+      by-row : (v : Row) → rowOf limited (kindIn i (markOf r)) (bodyOf r) ≡ v → ((l : Bool) → checkRecordsFrom i n l (at + length r) rs ≡ Good → allBodies (isBody k) (bodiesIn k rs) ≡ true)
+          → rowOn (rowOf limited (kindIn i (markOf r)) (bodyOf r)) limited (Refused (Malformed i at)) (λ l. checkRecordsFrom i n l (at + length r) rs) ≡ Good → allBodies (isBody k) (bodiesIn k (r ∷ rs)) ≡ true
+      by-row Row.Bad ev ih h = let z : Refused (Malformed i at) ≡ Good = rw ev at h in clash (cc)
+      by-row Row.Limit ev ih h = more (row-good limited (kindIn i (markOf r)) (bodyOf r) Row.Limit ev (λ z. clash (cc))) (ih true (rw ev at h)) (eqb (markOf r) (markFor k)) refl
+      by-row Row.Pass ev ih h = more (row-good limited (kindIn i (markOf r)) (bodyOf r) Row.Pass ev (λ z. clash (cc))) (ih limited (rw ev at h)) (eqb (markOf r) (markFor k)) refl
 
 -- every body of a kind that the input knows is well-formed
 pub good-bodies : (i : Input) (s : List ℕ) → checkRecords i s ≡ Good → (k : Kind) → kindIn i (markFor k) ≡ k → allBodies (isBody k) (bodies k s) ≡ true

@@ -127,21 +127,22 @@ pass-other s starts at Other b h = refl
 
 pub ruleset pass-laws = (pass-module, pass-main, pass-other)
 
-module _ (s t : List ℕ) (count : ℕ) (main : Bool) (at : ℕ) (k : Kind) (b : List ℕ) (few : count ≤ length t) (p : Bool) (ep : p ≡ isPlaced count main k) where
+module _ (s t : List ℕ) (count : ℕ) (main : Bool) (at mark start len : ℕ) (few : count ≤ length t)
+    (k : Kind) (ek : k ≡ setKind mark) (b : List ℕ) (eb : b ≡ take len (drop start s)) (p : Bool) (ep : p ≡ isPlaced count main k) where
   placed : isPlaced (length (take count t)) main k ≡ p
   placed = rw (counted s t count at b few) (sym ep)
 
-  pub judge-out : p ≡ false → Stop (Malformed Set at) ≡ judgeAt s (take count t) main at k b
+  pub judge-out : p ≡ false → Stop (Malformed Set at) ≡ judgeAt s (take count t) main at (setKind mark) (take len (drop start s))
   unfolding judgeAt
-  judge-out e = sym (rw (placed, e))
+  judge-out e = sym (rw (← ek, ← eb, placed, e))
 
-  pub judge-bad : (q : Bool) → p ≡ true → q ≡ isBody k b → q ≡ false → Stop (Malformed Set at) ≡ judgeAt s (take count t) main at k b
+  pub judge-bad : (q : Bool) → p ≡ true → q ≡ isBody k b → q ≡ false → Stop (Malformed Set at) ≡ judgeAt s (take count t) main at (setKind mark) (take len (drop start s))
   unfolding judgeAt
-  judge-bad q e eq f = sym (rw (placed, e, ← eq, f))
+  judge-bad q e eq f = sym (rw (← ek, ← eb, placed, e, ← eq, f))
 
-  pub judge-pass : (q : Bool) (r : Verdict) → p ≡ true → q ≡ isBody k b → q ≡ true → r ≡ passAt s (take count t) at k b → r ≡ judgeAt s (take count t) main at k b
+  pub judge-pass : (q : Bool) (r : Verdict) → p ≡ true → q ≡ isBody k b → q ≡ true → r ≡ passAt s (take count t) at k b → r ≡ judgeAt s (take count t) main at (setKind mark) (take len (drop start s))
   unfolding judgeAt
-  judge-pass q r e eq f er = er ∙ sym (rw (placed, e, ← eq, f))
+  judge-pass q r e eq f er = er ∙ sym (rw (← ek, ← eb, placed, e, ← eq, f))
 
 pub ruleset judge-laws = (judge-out, judge-bad, judge-pass)
 
@@ -250,7 +251,7 @@ module _ (s : List ℕ) (at : ℕ) (t : List ℕ) (count : ℕ) (main : Bool) (h
   check-fits = omega (arith, h .few)
 
   module _ (mark start len : ℕ) (next : Cursor) (er : step ≡ Record mark start len next)
-      (b : List ℕ) (k : Kind) (v : Verdict) (eb : b ≡ take len (drop start s)) (ek : k ≡ setKind mark) (ev : v ≡ judgeAt s (take count t) main at k b) where
+      (v : Verdict) (ev : v ≡ judgeAt s (take count t) main at (setKind mark) (take len (drop start s))) where
     p : Stepped s at mark start len next
     p = stepped s at step es mark start len next er
 
@@ -258,7 +259,7 @@ module _ (s : List ℕ) (at : ℕ) (t : List ℕ) (count : ℕ) (main : Bool) (h
     unfolding checkFrom
     turn =
         h .left
-        ∙ rw (records-next s at mark start len next p, front-mark s at mark start len next p, front-body s at mark start len next p, front-length s at mark start len next p, ev, ek, eb)
+        ∙ rw (records-next s at mark start len next p, front-mark s at mark start len next p, front-body s at mark start len next p, front-length s at mark start len next p, ev)
 
     inside : next .at ≤ length s
     inside = omega (arith, p .next-is, p .room)
@@ -277,7 +278,7 @@ module _ (s : List ℕ) (at : ℕ) (t : List ℕ) (count : ℕ) (main : Bool) (h
 
     few-more : v ≡ Start → count < 256
     few-more f =
-        let q : length (take count t) < 256 = start-room s (take count t) main at k b (sym ev ∙ f) in
+        let q : length (take count t) < 256 = start-room s (take count t) main at (setKind mark) (take len (drop start s)) (sym ev ∙ f) in
         omega (arith, q, length-take-le count t (omega (arith, h .few, h .long)))
 
     pub check-start-fits : v ≡ Start → count + 1 ≤ 256

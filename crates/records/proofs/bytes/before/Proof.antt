@@ -1,6 +1,6 @@
-use borrow.Author.Needs.{needs}
 use Prim.Native.Nat.{_-_}
 use lib.ListN.{length}
+use borrow.Author.Needs.{needs}
 use Rattle.records.proofs.bytes.Laws.{BeforeAt, before-laws}
 use Rattle.records.proofs.bytes.before.Statement.{statement}
 use Rattle.records.proofs.bytes.before.Tie as tie
@@ -17,16 +17,13 @@ before-spec =
     (tie.spec
     Inv-loop
     μ-loop
-    (λ c. search before-laws)
-    (λ c. search before-laws)
-    (λ c. search needs)
-    (λ c. search needs)
-    (λ c. search before-laws)
-    (λ c. search needs)
-    (λ c. search needs)
-    (λ c. search before-laws)
-    (λ c. search needs)
-    (λ c. search needs)
-    (λ c. search before-laws)
-    (λ c. search before-laws)
-    (λ c. search before-laws))
+    (λ c. search (before-laws, needs))
+    (λ c. search (before-laws, needs))
+    (λ c. search (before-laws, needs))
+    (λ c. search (before-laws, needs))
+    (λ c. search (before-laws, needs))
+    (λ c. search (before-laws, needs))
+    (λ c. search (before-laws, needs))
+    (λ c. search (before-laws, needs))
+    (λ c. search (before-laws, needs))
+    (λ c. search (before-laws, needs)))

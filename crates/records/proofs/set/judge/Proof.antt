@@ -10,6 +10,8 @@ judge-spec =
     (λ c κs. search (judge-laws, needs))
     (λ c κs. search (judge-laws, needs))
     (λ c κs. search (judge-laws, needs))
+    (λ c κs. search (judge-laws, needs))
+    (λ c κs. search (judge-laws, needs))
     (λ c. search (judge-laws, needs))
     (λ c. search (judge-laws, needs))
     (λ c. search (judge-laws, needs)))
