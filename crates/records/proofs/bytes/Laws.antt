@@ -11,6 +11,7 @@ use lib.Seq.{drop-cons, take-all, getD-drop}
 use lib.Dec.{ltb, eqb}
 use borrow.Author.Tests.{eq-eqb, ne-eqb, lt-ltb, le-ltb, eqb-true, ltb-true, ltb-false}
 use Rattle.records.specs.Bytes.{sameBytes, beforeBytes, u16At}
+use Rattle.records.proofs.Logic.{clash}
 
 -- ---- parts
 
@@ -94,13 +95,13 @@ pub ruleset same-laws = (same-lengths, same-start, same-in, same-differ, same-mo
 pub same-eq : (a b : List ℕ) → sameBytes a b ≡ true → a ≡ b
 unfolding sameBytes
 same-eq [] [] e = refl
-same-eq [] (y ∷ ys) e = let z : _≡_ {A = ℕ} 0 1 = cc in absurd (omega arith)
-same-eq (x ∷ xs) [] e = let z : _≡_ {A = ℕ} 0 1 = cc in absurd (omega arith)
+same-eq [] (y ∷ ys) e = clash (cc)
+same-eq (x ∷ xs) [] e = clash (cc)
 same-eq (x ∷ xs) (y ∷ ys) e = go (eqb x y) refl (same-eq xs ys) e
   where
     go : (t : Bool) → eqb x y ≡ t → (sameBytes xs ys ≡ true → xs ≡ ys) → (t && sameBytes xs ys) ≡ true → x ∷ xs ≡ y ∷ ys
     go true et ih h = ap₂ (λ (p : ℕ) (q : List ℕ). p ∷ q) (eqb-true x y et) (ih h)
-    go false et ih h = let z : _≡_ {A = ℕ} 0 1 = cc in absurd (omega arith)
+    go false et ih h = clash (cc)
 
 pub same-refl : (a : List ℕ) → sameBytes a a ≡ true
 unfolding sameBytes

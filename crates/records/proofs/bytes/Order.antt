@@ -7,6 +7,7 @@ use native.Mathlib.Omega.{arith}
 use lib.Dec.{ltb, eqb}
 use borrow.Author.Tests.{eq-eqb, lt-ltb, le-ltb, ltb-true, ltb-false, eqb-true, eqb-false}
 use Rattle.records.specs.Bytes.{sameBytes, beforeBytes}
+use Rattle.records.proofs.Logic.{clash}
 use Rattle.records.proofs.bytes.Laws.{same-eq, same-refl}
 
 -- no string stands before itself
@@ -27,7 +28,7 @@ less x xs y ys e = go (ltb x y) refl (eqb x y) refl e
     go : (t : Bool) → ltb x y ≡ t → (u : Bool) → eqb x y ≡ u → (t || (u && beforeBytes xs ys)) ≡ true → Less x xs y ys
     go true et u eu h = first (ltb-true x y et)
     go false et true eu h = rest (eqb-true x y eu) h
-    go false et false eu h = let z : _≡_ {A = ℕ} 0 1 = cc in absurd (omega arith)
+    go false et false eu h = clash (cc)
 
 less-before : (x : ℕ) (xs : List ℕ) (y : ℕ) (ys : List ℕ) → Less x xs y ys → beforeBytes (x ∷ xs) (y ∷ ys) ≡ true
 unfolding beforeBytes
@@ -46,7 +47,7 @@ unfolding beforeBytes
 before-trans [] [] c p q = q
 before-trans [] (y ∷ ys) [] p q = q
 before-trans [] (y ∷ ys) (z ∷ zs) p q = refl
-before-trans (x ∷ xs) [] c p q = let z : _≡_ {A = ℕ} 0 1 = cc in absurd (omega arith)
+before-trans (x ∷ xs) [] c p q = clash (cc)
 before-trans (x ∷ xs) (y ∷ ys) [] p q = q
 before-trans (x ∷ xs) (y ∷ ys) (z ∷ zs) p q =
     less-before x xs z zs (less-trans x xs y ys z zs (less x xs y ys p) (less y ys z zs q) (before-trans xs ys zs))
@@ -54,14 +55,14 @@ before-trans (x ∷ xs) (y ∷ ys) (z ∷ zs) p q =
 -- of two strings that differ one stands before the other
 pub before-total : (a b : List ℕ) → beforeBytes a b ≡ false → sameBytes a b ≡ false → beforeBytes b a ≡ true
 unfolding beforeBytes sameBytes
-before-total [] [] p q = let z : _≡_ {A = ℕ} 0 1 = cc in absurd (omega arith)
-before-total [] (y ∷ ys) p q = let z : _≡_ {A = ℕ} 0 1 = cc in absurd (omega arith)
+before-total [] [] p q = clash (cc)
+before-total [] (y ∷ ys) p q = clash (cc)
 before-total (x ∷ xs) [] p q = refl
 before-total (x ∷ xs) (y ∷ ys) p q = less-before y ys x xs (go (ltb x y) refl (eqb x y) refl (before-total xs ys) p q)
   where
     go : (t : Bool) → ltb x y ≡ t → (u : Bool) → eqb x y ≡ u → (beforeBytes xs ys ≡ false → sameBytes xs ys ≡ false → beforeBytes ys xs ≡ true)
         → (t || (u && beforeBytes xs ys)) ≡ false → (u && sameBytes xs ys) ≡ false → Less y ys x xs
-    go true et u eu ih h k = let z : _≡_ {A = ℕ} 0 1 = cc in absurd (omega arith)
+    go true et u eu ih h k = clash (cc)
     go false et true eu ih h k = rest (sym (eqb-true x y eu)) (ih h k)
     go false et false eu ih h k =
         let l : y ≤ x = ltb-false x y et in
@@ -98,5 +99,5 @@ pub before-total-back : (a b : List ℕ) → beforeBytes b a ≡ false → sameB
 before-total-back a b e f = go (sameBytes b a) refl
   where
     go : (t : Bool) → sameBytes b a ≡ t → beforeBytes a b ≡ true
-    go true h = let p : sameBytes a b ≡ true = same-back b a h in let z : _≡_ {A = ℕ} 0 1 = cc in absurd (omega arith)
+    go true h = let p : sameBytes a b ≡ true = same-back b a h in clash (cc)
     go false h = before-total b a e h

@@ -15,6 +15,7 @@ use Rattle.records.specs.Set.{bodyAt, nameAt}
 use Rattle.records.specs.Finder.{findName, pickFound}
 use Rattle.records.specs.declared.finder.Found.{Found}
 use Rattle.records.specs.declared.finder.Found.the-variants.{At, Nothing}
+use Rattle.records.proofs.Logic.{clash}
 
 pub name-is : (s t b u r : List ℕ) (at n : ℕ) → t ≡ drop at s → n ≡ u16At t 2 → b ≡ take n (drop 4 t) → u ≡ drop 3 b → r ≡ nameOf u → r ≡ nameAt s at
 unfolding nameAt bodyAt moduleName sizeOf
@@ -56,7 +57,7 @@ pub ruleset find-laws = (find-start, find-here, find-more, find-past, find-none)
 -- a name that is found is among the names
 pub found-in : (l : List (List ℕ)) (n : List ℕ) (i j : ℕ) → findName l n i ≡ At j → memName n l ≡ true
 unfolding findName memName
-found-in [] n i j e = let z : _≡_ {A = ℕ} 0 1 = cc in absurd (omega arith)
+found-in [] n i j e = clash (cc)
 found-in (m ∷ l) n i j e = go (sameBytes m n) refl (found-in l n (suc i) j) e
   where
     go : (b : Bool) → sameBytes m n ≡ b → (findName l n (suc i) ≡ At j → memName n l ≡ true) → pickFound b (At i) (findName l n (suc i)) ≡ At j → (b || memName n l) ≡ true
@@ -70,5 +71,5 @@ found-not [] n i e = refl
 found-not (m ∷ l) n i e = go (sameBytes m n) refl (found-not l n (suc i)) e
   where
     go : (b : Bool) → sameBytes m n ≡ b → (findName l n (suc i) ≡ Nothing → memName n l ≡ false) → pickFound b (At i) (findName l n (suc i)) ≡ Nothing → (b || memName n l) ≡ false
-    go true eb ih h = let z : _≡_ {A = ℕ} 0 1 = cc in absurd (omega arith)
+    go true eb ih h = clash (cc)
     go false eb ih h = ih h

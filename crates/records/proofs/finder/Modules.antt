@@ -14,12 +14,10 @@ use Rattle.records.specs.Set.{nameAt, blocks, modules, distinct}
 use Rattle.records.specs.Finder.{findName, pickFound, findModule}
 use Rattle.records.specs.declared.finder.Found.{Found}
 use Rattle.records.specs.declared.finder.Found.the-variants.{At, Nothing}
+use Rattle.records.proofs.Logic.{clash}
 use Rattle.records.proofs.bytes.Laws.{same-eq, same-refl}
 use Rattle.records.proofs.finder.Laws.{found-not}
 use Rattle.records.proofs.set.Blocks.{GoodSet}
-
-clash : {X : Type 0} → _≡_ {A = ℕ} 0 1 → X
-clash e = absurd (omega arith)
 
 -- the position of a name that is found among names, the first of which has position i
 pub record FoundAt (l : List (List ℕ)) (n : List ℕ) (i j : ℕ) : Type 0 where

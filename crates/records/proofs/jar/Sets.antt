@@ -27,6 +27,7 @@ use Rattle.records.specs.declared.request.RecordsAnswer.{RecordsAnswer}
 use Rattle.records.specs.declared.request.RecordsAnswer.the-variants as Records
 use Rattle.records.specs.declared.set.Verdict.the-variants.{Pass}
 use Rattle.records.specs.declared.jar.Written.the-variants.{Bytes, Refused}
+use Rattle.records.proofs.Logic.{clash}
 use Rattle.records.proofs.automatic.Characters.{both}
 use Rattle.records.proofs.automatic.Parts.{module-name-short, module-name-some, module-name-printable, module-name-not-unnamed}
 use Rattle.records.proofs.output.Made.{made-mark, made-body, made-whole, groupRecords, automatic-records}
@@ -151,14 +152,14 @@ validated-name m e = go (isModuleName m) e
   where
     go : (t : Bool) → pickNamed t Named.Valid (Named.Refused InvalidModuleName) ≡ Named.Valid → t ≡ true
     go true h = refl
-    go false h = let z : _≡_ {A = ℕ} 0 1 = cc in absurd (omega arith)
+    go false h = clash (cc)
 
 derived-valid : (jar : List ℕ) → derived jar ≡ Named.Valid → validated (derivedName jar) ≡ Named.Valid
 unfolding derived
 derived-valid jar e = go (isEmpty (withoutJar (fileName jar)) || isEmpty (derivedName jar)) e
   where
     go : (t : Bool) → pickNamed t (Named.Refused InvalidAutomaticModuleName) (validated (derivedName jar)) ≡ Named.Valid → validated (derivedName jar) ≡ Named.Valid
-    go true h = let z : _≡_ {A = ℕ} 0 1 = cc in absurd (omega arith)
+    go true h = clash (cc)
     go false h = h
 
 valid-name : (given : Bool) (jar manifest : List ℕ) → namedFor given jar manifest ≡ Named.Valid → isModuleName (nameFor given jar manifest) ≡ true
@@ -176,10 +177,10 @@ answered jar given manifest packages room n e =
 
     go : (t : Bool) (a : RecordsAnswer) → checkRecords Packages packages ≡ a → (m : Named) → namedFor given jar manifest ≡ m → (u : Bool)
         → pickWritten t (Refused (TooLarge 0)) (thenPackages a (thenName m (pickWritten u (Refused (OutputTooShort (length s))) (Bytes (length s))))) ≡ Bytes n → Answered (nameFor given jar manifest) packages n
-    go true a ea m em u h = let z : _≡_ {A = ℕ} 0 1 = cc in absurd (omega arith)
-    go false (Records.Refused x) ea m em u h = let z : _≡_ {A = ℕ} 0 1 = cc in absurd (omega arith)
-    go false Records.Good ea (Named.Refused x) em u h = let z : _≡_ {A = ℕ} 0 1 = cc in absurd (omega arith)
-    go false Records.Good ea Named.Valid em true h = let z : _≡_ {A = ℕ} 0 1 = cc in absurd (omega arith)
+    go true a ea m em u h = clash (cc)
+    go false (Records.Refused x) ea m em u h = clash (cc)
+    go false Records.Good ea (Named.Refused x) em u h = clash (cc)
+    go false Records.Good ea Named.Valid em true h = clash (cc)
     go false Records.Good ea Named.Valid em false h = record { packages-good = ea; named = valid-name given jar manifest em; long = cc }
 
 -- ---- the theorem

@@ -11,6 +11,7 @@ use lib.Dec.{ltb}
 use borrow.Author.Tests.{lt-ltb, le-ltb, ltb-true, ltb-false}
 use Rattle.records.specs.Bytes.{sameBytes, beforeBytes}
 use Rattle.records.specs.Order.{insertName, isOrdered, nameIn, Placed, standsAt, shifted, Inserted}
+use Rattle.records.proofs.Logic.{clash}
 use Rattle.records.proofs.bytes.Order.{before-trans}
 use Rattle.records.proofs.order.Ordered.{ordered-below, insert-ordered, insert-last, insert-there, insert-new}
 
@@ -220,7 +221,7 @@ stands-true s t count at name e = go (ltb at count) refl e
   where
     go : (b : Bool) → ltb at count ≡ b → (b && sameBytes name (nameIn s (getD t at 0))) ≡ true → (at < count) × (sameBytes name (nameIn s (getD t at 0)) ≡ true)
     go true eb h = (ltb-true at count eb, h)
-    go false eb h = let z : _≡_ {A = ℕ} 0 1 = cc in absurd (omega arith)
+    go false eb h = clash (cc)
 
 stands-false : (s t : List ℕ) (count at : ℕ) (name : List ℕ) → standsAt s t count at name ≡ false → at < count → sameBytes name (nameIn s (getD t at 0)) ≡ false
 unfolding standsAt

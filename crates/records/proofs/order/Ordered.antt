@@ -9,18 +9,11 @@ use lib.Seq.{drop-cons}
 use Rattle.records.specs.Bytes.{sameBytes, beforeBytes}
 use Rattle.records.specs.Name.{memName}
 use Rattle.records.specs.Order.{insertName, orderedFrom, ordered, isOrdered, allNames}
+use Rattle.records.proofs.Logic.{and-left, and-right}
 use Rattle.records.proofs.bytes.Laws.{same-eq}
 use Rattle.records.proofs.bytes.Order.{before-trans, before-total, before-one-way, before-differ, same-not-before, before-total-back}
 
 -- ---- the tests of one turn
-
-and-left : (a b : Bool) → (a && b) ≡ true → a ≡ true
-and-left true b e = refl
-and-left false b e = e
-
-and-right : (a b : Bool) → (a && b) ≡ true → b ≡ true
-and-right true b e = e
-and-right false b e = let z : _≡_ {A = ℕ} 0 1 = cc in absurd (omega arith)
 
 -- how a name stands to the first of a list: before it, the same, or behind it
 data Stands (n m : List ℕ) : Type 0 where

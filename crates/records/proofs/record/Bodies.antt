@@ -21,6 +21,7 @@ use Rattle.records.specs.declared.record.Next.{Next}
 use Rattle.records.specs.declared.record.Next.the-variants.{Body, Nothing}
 use Rattle.records.specs.declared.record.Kind.{Kind}
 use Rattle.records.specs.declared.record.Kind.the-variants.{Module, Requires, Exports, Opens, Uses, Provides, Package, MainClass, Root, LimitModules, AddReads, AddExports, AddOpens, Other}
+use Rattle.records.proofs.Logic.{clash}
 use Rattle.records.proofs.record.Laws.{Stepped, stepped, stepped-bad, stepped-end, front, records-next, front-mark, front-body, front-length, records-cons, records-none, records-end, records-ind, body-front, step-less}
 
 -- ---- kinds and marks
@@ -145,7 +146,7 @@ record Finds (k : Kind) (t : List ℕ) : Type 0 where
 finds-stop : (k : Kind) (t : List ℕ) → whole t ≡ false → Finds k t
 unfolding nextIn
 finds-stop k t e = record {
-  finds = λ off start len next h. let n : nextIn k off (records t) ≡ Nothing = rw (records-none t e) in let z : _≡_ {A = ℕ} 0 1 = cc in absurd (omega arith);
+  finds = λ off start len next h. let n : nextIn k off (records t) ≡ Nothing = rw (records-none t e) in clash (cc);
 }
 
 finds-more : (k : Kind) (t : List ℕ) → whole t ≡ true → Finds k (drop (suc (recordMore t)) t) → Finds k t
@@ -218,7 +219,7 @@ no-bodies k off [] e = refl
 no-bodies k off (r ∷ rs) e = go (isOf k r) refl (no-bodies k (off + length r) rs)
   where
     go : (b : Bool) → isOf k r ≡ b → (nextIn k (off + length r) rs ≡ Nothing → bodiesIn k rs ≡ []) → cond (isOf k r) (bodyOf r ∷ bodiesIn k rs) (bodiesIn k rs) ≡ []
-    go true eb ih = let z : _≡_ {A = ℕ} 0 1 = cc in absurd (omega arith)
+    go true eb ih = clash (cc)
     go false eb ih = rw eb (ih (rw eb at e))
 
 no-first : (k : Kind) (ns : List (List ℕ)) (off : ℕ) (rs : List (List ℕ)) → nextIn k off rs ≡ Nothing → firstIn k ns off rs ≡ Nothing
@@ -227,7 +228,7 @@ no-first k ns off [] e = refl
 no-first k ns off (r ∷ rs) e = go (isOf k r) refl (no-first k ns (off + length r) rs)
   where
     go : (b : Bool) → isOf k r ≡ b → (nextIn k (off + length r) rs ≡ Nothing → firstIn k ns (off + length r) rs ≡ Nothing) → firstIn k ns off (r ∷ rs) ≡ Nothing
-    go true eb ih = let z : _≡_ {A = ℕ} 0 1 = cc in absurd (omega arith)
+    go true eb ih = clash (cc)
     go false eb ih = rw eb (ih (rw eb at e))
 
 -- what a loop over the records of one kind knows of each turn

@@ -14,6 +14,7 @@ use Rattle.records.specs.Record.{markOf, sizeOf, bodyOf, recordMore, who
 use Rattle.records.specs.declared.record.Cursor.{Cursor}
 use Rattle.records.specs.declared.record.Step.{Step}
 use Rattle.records.specs.declared.record.Step.the-variants.{Record, Bad, End}
+use Rattle.records.proofs.Logic.{clash}
 use Rattle.records.proofs.bytes.Laws.{u16-drop}
 
 -- ---- unrolling
@@ -125,25 +126,25 @@ module _ (s : List ℕ) (at : ℕ) (r : Step) (er : r ≡ stepAt s at) where
             next-is = ap (λ (n : Cursor). n .at) en ∙ rw el;
             room = rw el (fits ew (ltb-true at (length s) eb));
           }
-      go true eb false ew = let z : _≡_ {A = ℕ} 0 1 = cc in absurd (omega arith)
-      go false eb w ew = let z : _≡_ {A = ℕ} 0 1 = cc in absurd (omega arith)
+      go true eb false ew = clash (cc)
+      go false eb w ew = clash (cc)
 
   pub stepped-bad : r ≡ Bad → whole (drop at s) ≡ false
   unfolding stepAt
   stepped-bad e = go (ltb at (length s)) refl (whole (drop at s)) refl
     where
       go : (b : Bool) → ltb at (length s) ≡ b → (w : Bool) → whole (drop at s) ≡ w → whole (drop at s) ≡ false
-      go true eb true ew = let z : _≡_ {A = ℕ} 0 1 = cc in absurd (omega arith)
+      go true eb true ew = clash (cc)
       go true eb false ew = ew
-      go false eb w ew = let z : _≡_ {A = ℕ} 0 1 = cc in absurd (omega arith)
+      go false eb w ew = clash (cc)
 
   pub stepped-end : r ≡ End → length s ≤ at
   unfolding stepAt
   stepped-end e = go (ltb at (length s)) refl (whole (drop at s)) refl
     where
       go : (b : Bool) → ltb at (length s) ≡ b → (w : Bool) → whole (drop at s) ≡ w → length s ≤ at
-      go true eb true ew = let z : _≡_ {A = ℕ} 0 1 = cc in absurd (omega arith)
-      go true eb false ew = let z : _≡_ {A = ℕ} 0 1 = cc in absurd (omega arith)
+      go true eb true ew = clash (cc)
+      go true eb false ew = clash (cc)
       go false eb w ew = ltb-false at (length s) eb
 
   pub stepped-in : r ≡ Bad → at < length s
@@ -152,7 +153,7 @@ module _ (s : List ℕ) (at : ℕ) (r : Step) (er : r ≡ stepAt s at) where
     where
       go : (b : Bool) → ltb at (length s) ≡ b → (w : Bool) → whole (drop at s) ≡ w → at < length s
       go true eb w ew = ltb-true at (length s) eb
-      go false eb w ew = let z : _≡_ {A = ℕ} 0 1 = cc in absurd (omega arith)
+      go false eb w ew = clash (cc)
 
 pub ruleset step-laws = (step-end, step-short, step-long, step-whole)
 

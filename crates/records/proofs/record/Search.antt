@@ -16,6 +16,7 @@ use Rattle.records.specs.declared.record.Cursor.{Cursor}
 use Rattle.records.specs.declared.record.Next.{Next}
 use Rattle.records.specs.declared.record.Next.the-variants.{Body, Nothing}
 use Rattle.records.specs.declared.record.Kind.{Kind}
+use Rattle.records.proofs.Logic.{clash}
 use Rattle.records.proofs.record.Laws.{records-cons, records-none, records-ind, body-front}
 use Rattle.records.proofs.record.Bodies.{first-next, first-end, next-room, next-less}
 
@@ -109,7 +110,7 @@ nothing-first k ns off (r ∷ rs) e = go (isOf k r) refl (begins ns (bodyOf r)) 
   where
     go : (b : Bool) → isOf k r ≡ b → (q : Bool) → begins ns (bodyOf r) ≡ q
         → (firstIn k ns (off + length r) rs ≡ Nothing → firstBody ns (bodiesIn k rs) ≡ none) → firstBody ns (bodiesIn k (r ∷ rs)) ≡ none
-    go true eb true eq ih = let z : _≡_ {A = ℕ} 0 1 = cc in absurd (omega arith)
+    go true eb true eq ih = clash (cc)
     go true eb false eq ih = rw (eb, eq) (ih (rw (eb, eq) at e))
     go false eb q eq ih = rw eb (ih (rw eb at e))
 
@@ -125,7 +126,7 @@ record Firsts (k : Kind) (ns : List (List ℕ)) (t : List ℕ) : Type 0 where
 firsts-stop : (k : Kind) (ns : List (List ℕ)) (t : List ℕ) → whole t ≡ false → Firsts k ns t
 unfolding firstIn
 firsts-stop k ns t e = record {
-  firsts = λ off start len next h. let n : firstIn k ns off (records t) ≡ Nothing = rw (records-none t e) in let z : _≡_ {A = ℕ} 0 1 = cc in absurd (omega arith);
+  firsts = λ off start len next h. let n : firstIn k ns off (records t) ≡ Nothing = rw (records-none t e) in clash (cc);
 }
 
 firsts-more : (k : Kind) (ns : List (List ℕ)) (t : List ℕ) → whole t ≡ true → Firsts k ns (drop (suc (recordMore t)) t) → Firsts k ns t

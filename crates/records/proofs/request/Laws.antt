@@ -34,6 +34,7 @@ use Rattle.records.specs.declared.request.Row.{Row}
 use Rattle.records.specs.declared.request.Row.the-variants as Row
 use Rattle.records.specs.declared.request.RecordsAnswer.{RecordsAnswer}
 use Rattle.records.specs.declared.request.RecordsAnswer.the-variants.{Good, Refused}
+use Rattle.records.proofs.Logic.{clash, and-false}
 use Rattle.records.proofs.record.Kind.{the-type}
 use Rattle.records.proofs.record.Laws.{Stepped, stepped, stepped-bad, stepped-end, stepped-in, records-next, front-mark, front-body, front-length, records-none, records-end, step-less}
 use Rattle.records.proofs.record.Bodies.{bodies-next, bodies-end}
@@ -61,10 +62,6 @@ limit-no AddReads h = refl
 limit-no AddExports h = refl
 limit-no AddOpens h = refl
 limit-no Other h = refl
-
-and-false : (b : Bool) → (b && false) ≡ false
-and-false true = refl
-and-false false = refl
 
 module _ (limited : Bool) (i : Input) (mark : ℕ) (k : Kind) (ek : k ≡ kindIn i mark) (b : List ℕ) (q : Bool) (eq : q ≡ isBody k b) where
   pub row-bad : q ≡ false → Row.Bad ≡ rowOf limited (kindIn i mark) b
@@ -151,7 +148,7 @@ unfolding checkRecords
 good-short i s e = go (ltb 65535 (length s)) refl
   where
     go : (b : Bool) → ltb 65535 (length s) ≡ b → length s ≤ 65535
-    go true eb = let z : _≡_ {A = ℕ} 0 1 = cc in absurd (omega arith)
+    go true eb = clash (cc)
     go false eb = ltb-false 65535 (length s) eb
 
 good-long : (i : Input) (s : List ℕ) → checkRecords i s ≡ Good → checkRecordsFrom i (length s) false 0 (records s) ≡ Good
@@ -159,11 +156,8 @@ unfolding checkRecords
 good-long i s e = go (ltb 65535 (length s)) refl
   where
     go : (b : Bool) → ltb 65535 (length s) ≡ b → checkRecordsFrom i (length s) false 0 (records s) ≡ Good
-    go true eb = let z : _≡_ {A = ℕ} 0 1 = cc in absurd (omega arith)
+    go true eb = clash (cc)
     go false eb = rw eb at e
-
-clash : {X : Type 0} → _≡_ {A = ℕ} 0 1 → X
-clash e = absurd (omega arith)
 
 -- a record that is not bad has a well-formed body
 row-good : (limited : Bool) (k : Kind) (b : List ℕ) (v : Row) → rowOf limited k b ≡ v → (v ≡ Row.Bad → ⊥) → isBody k b ≡ true

@@ -19,6 +19,7 @@ use Rattle.records.specs.Set.{nameAt, tableOf, checkSet, upToModule, blo
 use Rattle.records.specs.declared.record.Kind.the-variants.{Module}
 use Rattle.records.specs.declared.set.SetAnswer.the-variants.{Modules}
 use Rattle.records.specs.declared.set.Checked.{Checked}
+use Rattle.records.proofs.Logic.{clash}
 use Rattle.records.proofs.bytes.Laws.{same-eq, same-refl}
 use Rattle.records.proofs.record.Laws.{joined, records-cons, records-none, records-ind, records-end, splits}
 use Rattle.records.proofs.set.Table.{startsFrom, startsOf, areNew, isNew, Taken, taken, name-here}
@@ -181,9 +182,6 @@ parts-length s [] e = refl
 parts-length s (a ∷ l) e = ap suc (parts-length s l e)
 
 -- ---- names
-
-clash : {X : Type 0} → _≡_ {A = ℕ} 0 1 → X
-clash e = absurd (omega arith)
 
 not-unnamed : (s ss : List ℕ) (a : ℕ) → isNew s ss a ≡ true → sameBytes (nameAt s a) allUnnamed ≡ false
 unfolding isNew

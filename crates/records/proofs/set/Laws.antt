@@ -32,6 +32,7 @@ use Rattle.records.specs.declared.set.Verdict.the-variants.{Stop, Start,
 use Rattle.records.specs.declared.set.SetAnswer.{SetAnswer}
 use Rattle.records.specs.declared.set.SetAnswer.the-variants.{Modules, Refused}
 use Rattle.records.specs.declared.set.Checked.{Checked}
+use Rattle.records.proofs.Logic.{clash}
 use Rattle.records.proofs.record.Kind.{the-type}
 use Rattle.records.proofs.record.Laws.{Stepped, stepped, stepped-bad, stepped-end, stepped-in, records-next, front-mark, front-body, front-length, records-none, records-end, step-less}
 use Rattle.records.proofs.finder.Laws.{found-in, found-not}
@@ -206,25 +207,25 @@ admit-room s starts at b e = go (leb 256 (length starts)) refl e
     rest = pickVerdict (sameBytes (moduleName b) allUnnamed || memName (moduleName b) (map (nameAt s) starts)) (Stop (Repeated at)) Start
 
     go : (p : Bool) → leb 256 (length starts) ≡ p → pickVerdict p (Stop (TooLarge at)) rest ≡ Start → length starts < 256
-    go true ep h = let z : _≡_ {A = ℕ} 0 1 = cc in absurd (omega arith)
+    go true ep h = clash (cc)
     go false ep h = leb-false 256 (length starts) ep
 
 passed-room : (s starts : List ℕ) (at : ℕ) (k : Kind) (b : List ℕ) → passAt s starts at k b ≡ Start → length starts < 256
 unfolding passAt
 passed-room s starts at Module b e = admit-room s starts at b e
-passed-room s starts at Requires b e = let z : _≡_ {A = ℕ} 0 1 = cc in absurd (omega arith)
-passed-room s starts at Exports b e = let z : _≡_ {A = ℕ} 0 1 = cc in absurd (omega arith)
-passed-room s starts at Opens b e = let z : _≡_ {A = ℕ} 0 1 = cc in absurd (omega arith)
-passed-room s starts at Uses b e = let z : _≡_ {A = ℕ} 0 1 = cc in absurd (omega arith)
-passed-room s starts at Provides b e = let z : _≡_ {A = ℕ} 0 1 = cc in absurd (omega arith)
-passed-room s starts at Package b e = let z : _≡_ {A = ℕ} 0 1 = cc in absurd (omega arith)
-passed-room s starts at MainClass b e = let z : _≡_ {A = ℕ} 0 1 = cc in absurd (omega arith)
-passed-room s starts at Root b e = let z : _≡_ {A = ℕ} 0 1 = cc in absurd (omega arith)
-passed-room s starts at LimitModules b e = let z : _≡_ {A = ℕ} 0 1 = cc in absurd (omega arith)
-passed-room s starts at AddReads b e = let z : _≡_ {A = ℕ} 0 1 = cc in absurd (omega arith)
-passed-room s starts at AddExports b e = let z : _≡_ {A = ℕ} 0 1 = cc in absurd (omega arith)
-passed-room s starts at AddOpens b e = let z : _≡_ {A = ℕ} 0 1 = cc in absurd (omega arith)
-passed-room s starts at Other b e = let z : _≡_ {A = ℕ} 0 1 = cc in absurd (omega arith)
+passed-room s starts at Requires b e = clash (cc)
+passed-room s starts at Exports b e = clash (cc)
+passed-room s starts at Opens b e = clash (cc)
+passed-room s starts at Uses b e = clash (cc)
+passed-room s starts at Provides b e = clash (cc)
+passed-room s starts at Package b e = clash (cc)
+passed-room s starts at MainClass b e = clash (cc)
+passed-room s starts at Root b e = clash (cc)
+passed-room s starts at LimitModules b e = clash (cc)
+passed-room s starts at AddReads b e = clash (cc)
+passed-room s starts at AddExports b e = clash (cc)
+passed-room s starts at AddOpens b e = clash (cc)
+passed-room s starts at Other b e = clash (cc)
 
 -- a Start is given only where the table has room
 start-room : (s starts : List ℕ) (main : Bool) (at : ℕ) (k : Kind) (b : List ℕ) → judgeAt s starts main at k b ≡ Start → length starts < 256
@@ -233,7 +234,7 @@ start-room s starts main at k b e = go (isPlaced (length starts) main k && isBod
   where
     go : (p : Bool) → pickVerdict p (passAt s starts at k b) (Stop (Malformed Set at)) ≡ Start → length starts < 256
     go true h = passed-room s starts at k b h
-    go false h = let z : _≡_ {A = ℕ} 0 1 = cc in absurd (omega arith)
+    go false h = clash (cc)
 
 table-more : (t : List ℕ) (count at : ℕ) → count < 257 → length t ≡ 257 → t ≡ take count t ++ replicate (257 - count) 0
     → set t count at ≡ take count t ++ (at ∷ replicate (256 - count) 0)

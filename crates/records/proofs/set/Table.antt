@@ -23,6 +23,7 @@ use Rattle.records.specs.declared.set.Verdict.the-variants.{Stop, Start,
 use Rattle.records.specs.declared.set.SetAnswer.{SetAnswer}
 use Rattle.records.specs.declared.set.SetAnswer.the-variants.{Modules, Refused}
 use Rattle.records.specs.declared.set.Checked.{Checked}
+use Rattle.records.proofs.Logic.{clash, and-right}
 use Rattle.records.proofs.record.Laws.{joined, body-front, records-cons, records-none, records-ind}
 
 -- ---- a record that starts a module is an MO, and no other is
@@ -72,13 +73,6 @@ is-new s starts at b e n = rw (e, n)
 record Begins (s starts : List ℕ) (b : List ℕ) : Type 0 where
   few : length starts < 256
   new : (sameBytes (moduleName b) allUnnamed || memName (moduleName b) (map (nameAt s) starts)) ≡ false
-
-clash : {X : Type 0} → _≡_ {A = ℕ} 0 1 → X
-clash e = absurd (omega arith)
-
-and-right : (a b : Bool) → a && b ≡ true → b ≡ true
-and-right true b e = e
-and-right false b e = clash (cc)
 
 notStop : Verdict → Bool
 notStop (Stop e) = false
