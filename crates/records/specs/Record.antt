@@ -1,6 +1,6 @@
 -- Records: a two-byte mark, a two-byte body length, the body. Their kinds, what a well-formed body of each kind is, and
 -- the bodies of one kind (document 01, "The set and the request").
-use Prim.Native.Nat.{ℕ, zero, suc, _+_, _-_}
+use Prim.Native.Nat.{ℕ, zero, suc, _+_}
 use mathlib.Core.List.{List, [], _∷_}
 use mathlib.Core.Bool.{Bool, true, false, cond, _&&_, not}
 use lib.ListN.{length, getD, take, drop}
@@ -9,7 +9,6 @@ use Rattle.records.specs.Bytes.{sameBytes, u16At}
 use Rattle.records.specs.Name.{allUnnamed, nameOf, afterName, isNames, isList, isNameVersion, isNameList}
 use Rattle.records.specs.declared.error.Input.{Input}
 use Rattle.records.specs.declared.error.Input.the-variants.{Set, Request, Packages}
-use Rattle.records.specs.declared.record.Cursor.{Cursor}
 use Rattle.records.specs.declared.record.Step.{Step}
 use Rattle.records.specs.declared.record.Step.the-variants.{Record, Bad, End}
 use Rattle.records.specs.declared.record.Next.{Next}

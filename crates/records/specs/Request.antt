@@ -4,7 +4,7 @@ use Prim.Native.Nat.{ℕ, _+_}
 use mathlib.Core.List.{List, [], _∷_, map}
 use mathlib.Core.Bool.{Bool, true, false, _&&_, _||_, not}
 use mathlib.Core.Option.{Option, none, some}
-use lib.ListN.{length, take}
+use lib.ListN.{length}
 use lib.Dec.{ltb, eqb}
 use Rattle.records.specs.Bytes.{sameBytes}
 use Rattle.records.specs.Name.{javaBase, nameOf, afterName, listOf, memName}

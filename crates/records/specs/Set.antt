@@ -15,7 +15,6 @@ use Rattle.records.specs.declared.error.ModuleError.{ModuleError}
 use Rattle.records.specs.declared.error.ModuleError.the-variants.{Malformed, TooLarge, Repeated}
 use Rattle.records.specs.declared.set.Verdict.{Verdict}
 use Rattle.records.specs.declared.set.Verdict.the-variants.{Stop, Start, Main, Pass}
-use Rattle.records.specs.declared.set.SetAnswer.{SetAnswer}
 use Rattle.records.specs.declared.set.SetAnswer.the-variants.{Modules, Refused}
 use Rattle.records.specs.declared.set.Checked.{Checked}
 

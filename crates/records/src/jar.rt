@@ -1,5 +1,4 @@
 // The jar reader: the records of an automatic module, for a jar and its packages.
-ghost use mathlib.Core.Path.{_≡_};
 ghost use Prim.Native.Nat.{_≤_};
 ghost use lib.ListN.{length};
 ghost use Rattle.records.specs.Automatic.{derivedName, derived, validated};

@@ -1,6 +1,5 @@
 // A request: its check, and what it says. Package records are checked the same way.
 ghost use mathlib.Core.Path.{_≡_};
-ghost use lib.ListN.{take};
 ghost use mathlib.Core.List.{map};
 ghost use Rattle.records.specs.Record.{kindIn, bodies};
 ghost use Rattle.records.specs.Request.{rowOf, checkRecords, checkInputs, requestOf, isPermitted, grantOf, hasRead, hasGrant};

@@ -1,19 +1,18 @@
 -- Laws of the lookup by name, and what each turn of its loop shows.
-use Prim.Native.Nat.{ℕ, zero, suc, _+_, _-_, _≤_, _<_}
-use mathlib.Core.Path.{_≡_, refl, sym, _∙_, ap}
+use Prim.Native.Nat.{ℕ, suc, _+_, _-_, _≤_, _<_}
+use mathlib.Core.Path.{_≡_, refl, sym, _∙_}
 use mathlib.Core.List.{List, [], _∷_, map}
 use mathlib.Core.Bool.{Bool, true, false, _||_}
 use native.Mathlib.Omega.{arith}
 use native.Mathlib.Numerals.{add-one}
-use lib.ListN.{length, getD, take, drop, drop-of-length-le, length-take, length-map, List·getD-map}
-use lib.Seq.{drop-cons, getD-take, take-all, length-take-le}
+use lib.ListN.{length, getD, take, drop, drop-of-length-le, length-take}
+use lib.Seq.{drop-cons, getD-take}
 use Rattle.records.specs.Bytes.{sameBytes, u16At}
 use Rattle.records.specs.Name.{nameOf, memName}
 use Rattle.records.specs.Record.{sizeOf}
 use Rattle.records.specs.Descriptor.{moduleName}
 use Rattle.records.specs.Set.{bodyAt, nameAt}
 use Rattle.records.specs.Finder.{findName, pickFound}
-use Rattle.records.specs.declared.finder.Found.{Found}
 use Rattle.records.specs.declared.finder.Found.the-variants.{At, Nothing}
 use Rattle.records.proofs.Logic.{clash}
 

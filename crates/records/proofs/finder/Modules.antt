@@ -6,13 +6,12 @@ use mathlib.Core.List.{List, [], _∷_, map}
 use mathlib.Core.Bool.{Bool, true, false, _&&_, _||_, not}
 use native.Mathlib.Omega.{arith}
 use native.Mathlib.Nat.{add-zero}
-use lib.ListN.{length, getD, take, length-map, List·getD-map}
+use lib.ListN.{length, getD, take, length-map}
 use Rattle.records.specs.Bytes.{sameBytes}
 use Rattle.records.specs.Name.{memName}
 use Rattle.records.specs.Descriptor.{Descriptor, descriptorOf}
 use Rattle.records.specs.Set.{nameAt, blocks, modules, distinct}
 use Rattle.records.specs.Finder.{findName, pickFound, findModule}
-use Rattle.records.specs.declared.finder.Found.{Found}
 use Rattle.records.specs.declared.finder.Found.the-variants.{At, Nothing}
 use Rattle.records.proofs.Logic.{clash}
 use Rattle.records.proofs.bytes.Laws.{same-eq, same-refl}

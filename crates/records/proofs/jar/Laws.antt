@@ -4,14 +4,13 @@ use mathlib.Core.Path.{_≡_, refl, sym, _∙_, ap}
 use mathlib.Core.List.{List, [], map}
 use mathlib.Core.Bool.{Bool, true, false, cond}
 use native.Mathlib.Omega.{arith}
-use lib.ListN.{length, take, length-replicate, replicate}
-use lib.Dec.{ltb}
+use lib.ListN.{length, take}
 use borrow.Author.Tests.{lt-ltb, le-ltb}
-use Rattle.records.specs.Automatic.{isModuleName, derivedName, derived, validated, textOf, isValid, refusedText, derivedText, pickNamed, pickDerived}
+use Rattle.records.specs.Automatic.{isModuleName, derivedName, derived, validated, textOf, isValid, derivedText}
 use Rattle.records.specs.Request.{checkRecords}
-use Rattle.records.specs.Order.{nameIn, ordered, packagesOf, PackagesOrdered}
+use Rattle.records.specs.Order.{nameIn, PackagesOrdered}
 use Rattle.records.specs.Output.{written, packagesSize, automaticRecords}
-use Rattle.records.specs.Jar.{nameFor, namedFor, recordsFor, pickWritten, fitted, thenName, thenPackages, jarAnswer, outputAfter, JarRead, NamedRead, Ordered, Fitted}
+use Rattle.records.specs.Jar.{nameFor, namedFor, recordsFor, fitted, thenName, thenPackages, jarAnswer, outputAfter, JarRead, NamedRead, Ordered, Fitted}
 use Rattle.records.specs.declared.automatic.Derived.{Derived}
 use Rattle.records.specs.declared.automatic.Named.{Named}
 use Rattle.records.specs.declared.automatic.Named.the-variants as Named

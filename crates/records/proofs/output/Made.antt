@@ -10,7 +10,7 @@ use borrow.Author.Tests.{le-leb}
 use Rattle.records.specs.Bytes.{u16At}
 use Rattle.records.specs.Record.{markOf, sizeOf, bodyOf, recordMore, whole, records, markFor}
 use Rattle.records.specs.Output.{twoBytes, recordBytes, nameBytes, moduleRecord, baseRecord, group, noTargets, automaticRecords}
-use Rattle.records.specs.Order.{allShort, allNames, isShort}
+use Rattle.records.specs.Order.{allShort}
 use Rattle.records.specs.Name.{javaBase}
 use Rattle.records.specs.declared.record.Kind.{Kind}
 use Rattle.records.specs.declared.record.Kind.the-variants.{Module, Requires, Exports, Opens, Uses, Provides, Package, MainClass, Root, LimitModules, AddReads, AddExports, AddOpens, Other}

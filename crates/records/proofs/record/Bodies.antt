@@ -1,26 +1,25 @@
 -- Kinds, what each return of the body checks shows, and the bodies of one kind.
 use Prim.Native.Nat.{ℕ, zero, suc, _+_, _-_, _≤_, _<_}
 use mathlib.Core.Path.{_≡_, refl, sym, _∙_, ap}
-use mathlib.Core.List.{List, [], _∷_, _++_}
-use mathlib.Core.Bool.{Bool, true, false, cond, _&&_, not}
+use mathlib.Core.List.{List, [], _∷_}
+use mathlib.Core.Bool.{Bool, true, false, cond}
 use native.Mathlib.Omega.{arith}
 use native.Mathlib.Numerals.{sub-one}
 use lib.ListN.{length, getD, take, drop, length-drop}
 use lib.Seq.{length-take-le, drop-drop}
-use lib.Dec.{ltb, leb, eqb}
 use borrow.Author.Tests.{eq-eqb, ne-eqb, le-leb, lt-leb, leb-true}
 use Rattle.records.specs.Bytes.{sameBytes}
 use Rattle.records.specs.Name.{allUnnamed, nameOf, isNameVersion}
-use Rattle.records.specs.Record.{markOf, bodyOf, records, recordMore, sizeOf, whole, stepAt, markFor, setKind, requestKind, packageKind, kindIn, pickKind, isModule, isRequires, isBody, isOf, bodiesIn, bodies, nextIn, nextOf, pickNext, begins, firstIn}
+use Rattle.records.specs.Record.{markOf, bodyOf, records, recordMore, sizeOf, whole, stepAt, markFor, setKind, requestKind, packageKind, kindIn, isModule, isRequires, isBody, isOf, bodiesIn, bodies, nextIn, nextOf, pickNext, begins, firstIn}
 use Rattle.records.specs.declared.error.Input.{Input}
-use Rattle.records.specs.declared.error.Input.the-variants.{Set, Request, Packages}
+use Rattle.records.specs.declared.error.Input.the-variants.{Packages}
 use Rattle.records.specs.declared.record.Cursor.{Cursor}
 use Rattle.records.specs.declared.record.Step.{Step}
 use Rattle.records.specs.declared.record.Step.the-variants.{Record, Bad, End}
 use Rattle.records.specs.declared.record.Next.{Next}
 use Rattle.records.specs.declared.record.Next.the-variants.{Body, Nothing}
 use Rattle.records.specs.declared.record.Kind.{Kind}
-use Rattle.records.specs.declared.record.Kind.the-variants.{Module, Requires, Exports, Opens, Uses, Provides, Package, MainClass, Root, LimitModules, AddReads, AddExports, AddOpens, Other}
+use Rattle.records.specs.declared.record.Kind.the-variants.{Package, Other}
 use Rattle.records.proofs.Logic.{clash}
 use Rattle.records.proofs.record.Laws.{Stepped, stepped, stepped-bad, stepped-end, front, records-next, front-mark, front-body, front-length, records-cons, records-none, records-end, records-ind, body-front, step-less}
 

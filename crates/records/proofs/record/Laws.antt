@@ -5,12 +5,12 @@ use mathlib.Core.List.{List, [], _∷_, _++_}
 use mathlib.Core.Bool.{Bool, true, false, cond}
 use native.Mathlib.Omega.{arith}
 use native.Mathlib.Nat.{add-zero, zero-add, suc-add}
-use lib.ListN.{length, getD, take, drop, length-drop, length-append, drop-of-length-le, List·getD-append}
+use lib.ListN.{length, take, drop, length-drop, length-append, drop-of-length-le, List·getD-append}
 use lib.Seq.{getD-take, drop-drop, take-nil, length-take-le, take-append-le, drop-append-le, drop-at}
-use lib.Dec.{leb, ltb, eqb}
+use lib.Dec.{ltb}
 use borrow.Author.Tests.{lt-leb, le-leb, lt-ltb, le-ltb, leb-true, ltb-true, ltb-false}
 use Rattle.records.specs.Bytes.{u16At}
-use Rattle.records.specs.Record.{markOf, sizeOf, bodyOf, recordMore, whole, recordsFrom, records, stepAt, pickStep}
+use Rattle.records.specs.Record.{markOf, sizeOf, bodyOf, recordMore, whole, recordsFrom, records, stepAt}
 use Rattle.records.specs.declared.record.Cursor.{Cursor}
 use Rattle.records.specs.declared.record.Step.{Step}
 use Rattle.records.specs.declared.record.Step.the-variants.{Record, Bad, End}

@@ -7,20 +7,19 @@ use mathlib.Core.Option.{some}
 use native.Mathlib.Omega.{arith}
 use lib.ListN.{length, take, drop}
 use lib.Dec.{ltb, eqb}
-use borrow.Author.Tests.{eq-eqb, ne-eqb, lt-ltb, le-ltb, ltb-false, eqb-true, not-true, not-false}
+use borrow.Author.Tests.{eq-eqb, ne-eqb, lt-ltb, le-ltb, ltb-false, eqb-true}
 use types.Run.{OneOf, miss}
 use denote.Enum.Declared.{tagOf}
 use Rattle.records.specs.Bytes.{sameBytes}
 use Rattle.records.specs.Name.{javaBase, nameOf, afterName, listOf, memName}
 use Rattle.records.specs.Record.{markOf, bodyOf, records, stepAt, markFor, kindIn, isBody, isOf, bodiesIn, bodies, nextOf, begins, firstOf}
-use Rattle.records.specs.Request.{pickAnswer, isLimit, pickRow, rowOf, rowOn, checkRecordsFrom, checkRecords, thenRequest, checkInputs, readOf, grantOf, limitOf, requestOf, withinLimit, isPermitted, hasRead, hasGrant}
+use Rattle.records.specs.Request.{isLimit, pickRow, rowOf, rowOn, checkRecordsFrom, checkRecords, thenRequest, checkInputs, readOf, grantOf, limitOf, requestOf, withinLimit, isPermitted, hasRead, hasGrant}
 use Rattle.records.specs.declared.error.Input.{Input}
 use Rattle.records.specs.declared.error.Input.the-variants.{Request}
 use Rattle.records.specs.declared.error.ModuleError.{ModuleError}
 use Rattle.records.specs.declared.error.ModuleError.the-variants.{Malformed, TooLarge}
 use Rattle.records.specs.Set.{pickChecked, refused, checkSet}
 use Rattle.records.specs.declared.set.Checked.{Checked}
-use Rattle.records.specs.declared.set.SetAnswer.{SetAnswer}
 use Rattle.records.specs.declared.set.SetAnswer.the-variants.{Modules}
 use Rattle.records.specs.declared.set.SetAnswer.the-variants as Set
 use Rattle.records.specs.declared.record.Cursor.{Cursor}

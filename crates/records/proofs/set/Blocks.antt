@@ -1,15 +1,14 @@
 -- The blocks of a set that the check takes: by the table they are those of the definition, and the names in the table are the
 -- names of its modules, each but once.
 use Prim.Native.Nat.{ℕ, zero, suc, _+_, _-_, _≤_, _<_}
-use mathlib.Core.Path.{_≡_, refl, sym, _∙_, ap, ap₂}
+use mathlib.Core.Path.{_≡_, refl, sym, _∙_, ap}
 use mathlib.Core.List.{List, [], _∷_, _++_, map, append-nil}
 use mathlib.Core.Bool.{Bool, true, false, cond, _&&_, _||_, not}
 use native.Mathlib.Omega.{arith}
 use native.Mathlib.Nat.{add-zero}
-use native.Mathlib.Numerals.{add-one}
-use lib.ListN.{length, getD, take, drop, replicate, length-append, length-drop, length-map}
-use lib.Seq.{length-take-le, drop-drop, take-add, getD-take, take-take, drop-length, take-at, take-append-seam}
-use lib.Dec.{leb, eqb}
+use lib.ListN.{length, getD, take, drop, replicate, length-append}
+use lib.Seq.{length-take-le, drop-drop, take-add, getD-take, take-take, take-append-seam}
+use lib.Dec.{leb}
 use borrow.Author.Tests.{leb-true, le-leb}
 use Rattle.records.specs.Bytes.{sameBytes, u16At}
 use Rattle.records.specs.Name.{allUnnamed, memName}
@@ -18,7 +17,6 @@ use Rattle.records.specs.Descriptor.{Descriptor, moduleName, headerOf, d
 use Rattle.records.specs.Set.{nameAt, tableOf, checkSet, upToModule, blocksOf, blocks, blockAt, modules, distinct}
 use Rattle.records.specs.declared.record.Kind.the-variants.{Module}
 use Rattle.records.specs.declared.set.SetAnswer.the-variants.{Modules}
-use Rattle.records.specs.declared.set.Checked.{Checked}
 use Rattle.records.proofs.Logic.{clash}
 use Rattle.records.proofs.bytes.Laws.{same-eq, same-refl}
 use Rattle.records.proofs.record.Laws.{joined, records-cons, records-none, records-ind, records-end, splits}

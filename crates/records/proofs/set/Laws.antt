@@ -1,22 +1,22 @@
 -- What each return of the set's check shows.
-use Prim.Native.Nat.{ℕ, zero, suc, _+_, _-_, _≤_, _<_}
-use mathlib.Core.Path.{_≡_, refl, sym, _∙_, ap, ap₂}
-use mathlib.Core.List.{List, [], _∷_, _++_, map, append-nil}
-use mathlib.Core.Bool.{Bool, true, false, _&&_, _||_, not}
+use Prim.Native.Nat.{ℕ, suc, _+_, _-_, _≤_, _<_}
+use mathlib.Core.Path.{_≡_, refl, sym, _∙_, ap}
+use mathlib.Core.List.{List, [], _∷_, _++_, map}
+use mathlib.Core.Bool.{Bool, true, false, _&&_, _||_}
 use native.Mathlib.Omega.{arith}
 use native.Mathlib.Numerals.{add-one}
-use lib.ListN.{length, getD, take, drop, set, replicate, length-take, length-drop, length-replicate, length-set, List·getD-eq-default, drop-of-length-le}
+use lib.ListN.{length, getD, take, drop, set, replicate, length-set, List·getD-eq-default}
 use lib.Seq.{length-take-le, take-suc-set, set-at, append-snoc}
-use lib.Dec.{ltb, leb, eqb}
-use borrow.Author.Tests.{eq-eqb, ne-eqb, lt-ltb, le-ltb, le-leb, lt-leb, leb-true, leb-false}
+use lib.Dec.{ltb, leb}
+use borrow.Author.Tests.{eq-eqb, ne-eqb, lt-ltb, le-ltb, le-leb, lt-leb, leb-false}
 use types.Run.{OneOf, miss}
 use denote.Enum.Declared.{tagOf}
 use Rattle.records.specs.Bytes.{sameBytes}
 use Rattle.records.specs.Name.{allUnnamed, nameOf, memName}
-use Rattle.records.specs.Record.{markOf, bodyOf, records, stepAt, setKind, isBody}
+use Rattle.records.specs.Record.{records, stepAt, setKind, isBody}
 use Rattle.records.specs.Descriptor.{moduleName}
 use Rattle.records.specs.Finder.{findName}
-use Rattle.records.specs.Set.{Passed, nameAt, isPlaced, admitAt, passAt, judgeAt, pickVerdict, pickChecked, tableOf, refused, accepted, goOn, checkFrom, checkSet, blockAt}
+use Rattle.records.specs.Set.{nameAt, isPlaced, admitAt, passAt, judgeAt, pickVerdict, tableOf, refused, accepted, goOn, checkFrom, checkSet, blockAt}
 use Rattle.records.specs.declared.record.Cursor.{Cursor}
 use Rattle.records.specs.declared.record.Step.{Step}
 use Rattle.records.specs.declared.record.Step.the-variants.{Record, Bad, End}
@@ -29,12 +29,11 @@ use Rattle.records.specs.declared.error.ModuleError.{ModuleError}
 use Rattle.records.specs.declared.error.ModuleError.the-variants.{Malformed, TooLarge, Repeated}
 use Rattle.records.specs.declared.set.Verdict.{Verdict}
 use Rattle.records.specs.declared.set.Verdict.the-variants.{Stop, Start, Main, Pass}
-use Rattle.records.specs.declared.set.SetAnswer.{SetAnswer}
 use Rattle.records.specs.declared.set.SetAnswer.the-variants.{Modules, Refused}
 use Rattle.records.specs.declared.set.Checked.{Checked}
 use Rattle.records.proofs.Logic.{clash}
 use Rattle.records.proofs.record.Kind.{the-type}
-use Rattle.records.proofs.record.Laws.{Stepped, stepped, stepped-bad, stepped-end, stepped-in, records-next, front-mark, front-body, front-length, records-none, records-end, step-less}
+use Rattle.records.proofs.record.Laws.{Stepped, stepped, stepped-bad, stepped-end, stepped-in, records-next, front-mark, front-body, front-length, records-none, records-end}
 use Rattle.records.proofs.finder.Laws.{found-in, found-not}
 
 -- ---- one record

@@ -1,10 +1,10 @@
 -- What the check of a set shows of a set that passes: its table, its blocks, its names.
-use Prim.Native.Nat.{ℕ, zero, suc, _+_, _-_, _≤_, _<_}
-use mathlib.Core.Path.{_≡_, refl, sym, _∙_, ap, ap₂, subst}
+use Prim.Native.Nat.{ℕ, suc, _+_, _-_, _≤_, _<_}
+use mathlib.Core.Path.{_≡_, refl, sym, _∙_, ap, subst}
 use mathlib.Core.List.{List, [], _∷_, _++_, map, append-nil, append-assoc}
 use mathlib.Core.Bool.{Bool, true, false, cond, _&&_, _||_, not}
 use native.Mathlib.Omega.{arith}
-use lib.ListN.{length, getD, take, drop, replicate, length-append, length-drop}
+use lib.ListN.{length, take, drop, length-append}
 use lib.Seq.{length-take-le, drop-drop}
 use lib.Dec.{ltb, leb, eqb}
 use borrow.Author.Tests.{eqb-true, leb-true, leb-false, ltb-false}
@@ -12,15 +12,13 @@ use Rattle.records.specs.Bytes.{sameBytes}
 use Rattle.records.specs.Name.{allUnnamed, memName}
 use Rattle.records.specs.Record.{markOf, bodyOf, recordMore, whole, records, setKind, pickKind, markFor, isBody, isOf}
 use Rattle.records.specs.Descriptor.{moduleName}
-use Rattle.records.specs.Set.{Passed, bodyAt, nameAt, isPlaced, admitAt, passAt, judgeAt, pickVerdict, pickChecked, tableOf, refused, accepted, goOn, checkFrom, checkSet}
+use Rattle.records.specs.Set.{Passed, bodyAt, nameAt, isPlaced, admitAt, passAt, judgeAt, pickVerdict, tableOf, refused, accepted, goOn, checkFrom, checkSet}
 use Rattle.records.specs.declared.record.Kind.{Kind}
 use Rattle.records.specs.declared.record.Kind.the-variants.{Module, Requires, Exports, Opens, Uses, Provides, Package, MainClass, Root, LimitModules, AddReads, AddExports, AddOpens, Other}
 use Rattle.records.specs.declared.error.Input.the-variants.{Set}
-use Rattle.records.specs.declared.error.ModuleError.{ModuleError}
 use Rattle.records.specs.declared.error.ModuleError.the-variants.{Malformed, TooLarge, Repeated}
 use Rattle.records.specs.declared.set.Verdict.{Verdict}
 use Rattle.records.specs.declared.set.Verdict.the-variants.{Stop, Start, Main, Pass}
-use Rattle.records.specs.declared.set.SetAnswer.{SetAnswer}
 use Rattle.records.specs.declared.set.SetAnswer.the-variants.{Modules, Refused}
 use Rattle.records.specs.declared.set.Checked.{Checked}
 use Rattle.records.proofs.Logic.{clash, and-right}
