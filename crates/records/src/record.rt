@@ -1,7 +1,8 @@
 // Records: a two-byte mark, a two-byte body length, the body. A cursor walks them.
 ghost use mathlib.Core.Path.{_≡_};
-ghost use mathlib.Core.List.{[], _∷_};
+ghost use mathlib.Core.List.{[], _∷_, map};
 ghost use lib.ListN.{getD, take};
+ghost use Rattle.records.specs.Name.{nameOf};
 ghost use Rattle.records.specs.Record.{stepAt, markFor, setKind, requestKind, kindIn, isModule, isRequires, isBody, nextOf, bodies, begins as beginsWith, firstOf};
 use crate::bytes::be16;
 use crate::bytes::byte;
@@ -298,4 +299,12 @@ pub fn find_body(s: &[u8], kind: Kind, count: usize, a: &[u8], b: &[u8], c: &[u8
             }
         }
     }
+}
+
+// The name in front of record k of this kind, nothing where there are fewer: root k of a request, package k or used service k
+// of a module.
+pub fn nth_name(s: &[u8], kind: Kind, k: usize) -> &[u8]
+    ensures { λ r. ⌜ now r ≡ getD (map nameOf (bodies kind (now (s .entry)))) k [] ⌝ }
+{
+    name_of(body(s, kind, k))
 }

@@ -1,11 +1,11 @@
 -- Kinds, what each return of the body checks shows, and the bodies of one kind.
 use Prim.Native.Nat.{ℕ, zero, suc, _+_, _-_, _≤_, _<_}
 use mathlib.Core.Path.{_≡_, refl, sym, _∙_, ap}
-use mathlib.Core.List.{List, [], _∷_}
+use mathlib.Core.List.{List, [], _∷_, map}
 use mathlib.Core.Bool.{Bool, true, false, cond}
 use native.Mathlib.Omega.{arith}
 use native.Mathlib.Numerals.{sub-one}
-use lib.ListN.{length, getD, take, drop, length-drop}
+use lib.ListN.{length, getD, take, drop, length-drop, List·getD-map}
 use lib.Seq.{length-take-le, drop-drop}
 use borrow.Author.Tests.{eq-eqb, ne-eqb, le-leb, lt-leb, leb-true}
 use Rattle.records.specs.Bytes.{sameBytes}
@@ -306,3 +306,8 @@ module _ (kind : Kind) (s : List ℕ) (k at left : ℕ) (h : BodyAt kind s k at 
   body-none e = sym (h .rest ∙ rw (bodies-end kind s at r er e))
 
 pub ruleset body-laws = (body-start, body-here, body-more, body-less, body-none)
+
+-- the name in front of it
+pub nth-name : (kind : Kind) (s : List ℕ) (k : ℕ) (b r : List ℕ) → b ≡ getD (bodies kind s) k [] → r ≡ nameOf b → r ≡ getD (map nameOf (bodies kind s)) k []
+unfolding nameOf
+nth-name kind s k b r eb er = er ∙ ap nameOf eb ∙ sym (List·getD-map nameOf (bodies kind s) k [])
