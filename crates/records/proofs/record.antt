@@ -1,3 +1,4 @@
 pub mod Bodies
 pub mod Laws
+pub mod Marks
 pub mod Search

@@ -170,6 +170,16 @@ nextIn k at (r ∷ rs) = pickNext (isOf k r) (Body (at + 4) (length (bodyOf r)) 
 unfoldable pub nextOf : Kind → List ℕ → ℕ → Next
 nextOf k s at = nextIn k at (records (drop at s))
 
+-- record i of kind k among those that stand from `at` on: where it stands
+unfoldable pub nthIn : Kind → ℕ → ℕ → List (List ℕ) → Next
+nthIn k i at [] = Nothing
+nthIn k zero at (r ∷ rs) =
+    pickNext (isOf k r) (Body (at + 4) (length (bodyOf r)) (record { at = at + length r })) (nthIn k zero (at + length r) rs)
+nthIn k (suc i) at (r ∷ rs) = pickNext (isOf k r) (nthIn k i (at + length r) rs) (nthIn k (suc i) (at + length r) rs)
+
+unfoldable pub nthOf : Kind → ℕ → List ℕ → Next
+nthOf k i s = nthIn k i 0 (records s)
+
 -- ---- the records of one kind that begin with these names
 
 unfoldable pub begins : List (List ℕ) → List ℕ → Bool

@@ -3,7 +3,7 @@ ghost use mathlib.Core.Path.{_≡_};
 ghost use mathlib.Core.List.{[], _∷_, map};
 ghost use lib.ListN.{getD, take};
 ghost use Rattle.records.specs.Name.{nameOf};
-ghost use Rattle.records.specs.Record.{stepAt, markFor, setKind, requestKind, kindIn, isModule, isRequires, isBody, nextOf, bodies, begins as beginsWith, firstOf};
+ghost use Rattle.records.specs.Record.{stepAt, markFor, setKind, requestKind, kindIn, isModule, isRequires, isBody, nextOf, nthOf, bodies, begins as beginsWith, firstOf};
 use crate::bytes::be16;
 use crate::bytes::byte;
 use crate::bytes::part;
@@ -236,9 +236,9 @@ pub fn is_body(kind: Kind, b: &[u8]) -> bool
     }
 }
 
-// The body of record k of this kind, nothing where there are fewer.
-pub fn body(s: &[u8], kind: Kind, k: usize) -> &[u8]
-    ensures { λ r. ⌜ now r ≡ getD (bodies kind (now (s .entry))) k [] ⌝ }
+// Record k of this kind.
+pub fn nth(s: &[u8], kind: Kind, k: usize) -> Next
+    ensures { λ r. ⌜ r ≡ nthOf kind k (now (s .entry)) ⌝ }
 {
     let mut c = Cursor { at: 0 };
     let mut left = k;
@@ -246,15 +246,29 @@ pub fn body(s: &[u8], kind: Kind, k: usize) -> &[u8]
         match c.next(s, kind) {
             Next::Body { start, len, next } => {
                 if left == 0 {
-                    return part(s, start, len);
+                    return Next::Body { start, len, next };
                 }
                 left -= 1;
                 c = next;
             }
             Next::Nothing => {
-                return &s[..0];
+                return Next::Nothing;
             }
         }
+    }
+}
+
+// The body of record k of this kind, nothing where there are fewer.
+pub fn body(s: &[u8], kind: Kind, k: usize) -> &[u8]
+    ensures { λ r. ⌜ now r ≡ getD (bodies kind (now (s .entry))) k [] ⌝ }
+{
+    match nth(s, kind, k) {
+        Next::Body {
+            start,
+            len,
+            next: _,
+        } => part(s, start, len),
+        Next::Nothing => &s[..0],
     }
 }
 

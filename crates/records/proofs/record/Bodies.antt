@@ -1,4 +1,4 @@
--- Kinds, what each return of the body checks shows, and the bodies of one kind.
+-- The records of one kind, one after the other: what a cursor finds of them, and record number i.
 use Prim.Native.Nat.{ℕ, zero, suc, _+_, _-_, _≤_, _<_}
 use mathlib.Core.Path.{_≡_, refl, sym, _∙_, ap}
 use mathlib.Core.List.{List, [], _∷_, map}
@@ -7,73 +7,17 @@ use native.Mathlib.Omega.{arith}
 use native.Mathlib.Numerals.{sub-one}
 use lib.ListN.{length, getD, take, drop, length-drop, List·getD-map}
 use lib.Seq.{length-take-le, drop-drop}
-use borrow.Author.Tests.{eq-eqb, ne-eqb, le-leb, lt-leb, leb-true}
-use Rattle.records.specs.Bytes.{sameBytes}
-use Rattle.records.specs.Name.{allUnnamed, nameOf, isNameVersion}
-use Rattle.records.specs.Record.{markOf, bodyOf, records, recordMore, sizeOf, whole, stepAt, markFor, setKind, requestKind, packageKind, kindIn, isModule, isRequires, isBody, isOf, bodiesIn, bodies, nextIn, nextOf, pickNext, begins, firstIn}
-use Rattle.records.specs.declared.error.Input.{Input}
-use Rattle.records.specs.declared.error.Input.the-variants.{Packages}
+use borrow.Author.Tests.{eq-eqb, ne-eqb, leb-true}
+use Rattle.records.specs.Name.{nameOf}
+use Rattle.records.specs.Record.{markOf, bodyOf, records, recordMore, sizeOf, whole, stepAt, markFor, isOf, bodiesIn, bodies, nextIn, nextOf, nthIn, nthOf, pickNext, begins, firstIn}
 use Rattle.records.specs.declared.record.Cursor.{Cursor}
 use Rattle.records.specs.declared.record.Step.{Step}
 use Rattle.records.specs.declared.record.Step.the-variants.{Record, Bad, End}
 use Rattle.records.specs.declared.record.Next.{Next}
 use Rattle.records.specs.declared.record.Next.the-variants.{Body, Nothing}
 use Rattle.records.specs.declared.record.Kind.{Kind}
-use Rattle.records.specs.declared.record.Kind.the-variants.{Package, Other}
 use Rattle.records.proofs.Logic.{clash}
 use Rattle.records.proofs.record.Laws.{Stepped, stepped, stepped-bad, stepped-end, front, records-next, front-mark, front-body, front-length, records-cons, records-none, records-end, records-ind, body-front, step-less}
-
--- ---- kinds and marks
-
-pub mark-told : (k k′ : Kind) (n : ℕ) → k ≡ k′ → n ≡ markFor k′ → n ≡ markFor k
-mark-told k k′ n e en = cc
-
--- a mark that is told, of a kind that `f` gives
-pub kind-at : (f : ℕ → Kind) (m n : ℕ) (k : Kind) → m ≡ n → k ≡ f n → k ≡ f m
-kind-at f m n k e ek = cc
-
-pub set-other : (m : ℕ) → (m ≡ 0x4D4F → ⊥) → (m ≡ 0x5251 → ⊥) → (m ≡ 0x4558 → ⊥) → (m ≡ 0x4F50 → ⊥) → (m ≡ 0x5553 → ⊥) → (m ≡ 0x5056 → ⊥) → (m ≡ 0x504B → ⊥) → (m ≡ 0x4D43 → ⊥) → Other ≡ setKind m
-unfolding setKind
-set-other m a b c d e f g h =
-    rw (ne-eqb m 0x4D4F a, ne-eqb m 0x5251 b, ne-eqb m 0x4558 c, ne-eqb m 0x4F50 d, ne-eqb m 0x5553 e, ne-eqb m 0x5056 f, ne-eqb m 0x504B g, ne-eqb m 0x4D43 h)
-
-pub request-other : (m : ℕ) → (m ≡ 0x5254 → ⊥) → (m ≡ 0x4C4D → ⊥) → (m ≡ 0x4152 → ⊥) → (m ≡ 0x4145 → ⊥) → (m ≡ 0x414F → ⊥) → Other ≡ requestKind m
-unfolding requestKind
-request-other m a b c d e = rw (ne-eqb m 0x5254 a, ne-eqb m 0x4C4D b, ne-eqb m 0x4152 c, ne-eqb m 0x4145 d, ne-eqb m 0x414F e)
-
-pub in-told : (i i′ : Input) (m : ℕ) (k : Kind) → i ≡ i′ → k ≡ kindIn i′ m → k ≡ kindIn i m
-in-told i i′ m k e ek = cc
-
-pub in-package : (i : Input) (m : ℕ) → i ≡ Packages → m ≡ 0x504B → Package ≡ kindIn i m
-unfolding kindIn packageKind
-in-package i m e em = sym (rw (e, eq-eqb m 0x504B em))
-
-pub in-other : (i : Input) (m : ℕ) → i ≡ Packages → (m ≡ 0x504B → ⊥) → Other ≡ kindIn i m
-unfolding kindIn packageKind
-in-other i m e em = sym (rw (e, ne-eqb m 0x504B em))
-
--- ---- bodies
-
-pub module-bad : (b : List ℕ) (n : ℕ) → n ≡ getD b 2 0 → 1 < n → false ≡ isModule b
-unfolding isModule
-module-bad b n e l = rw (lt-leb (getD b 2 0) 1 (omega arith))
-
-pub module-is : (b t : List ℕ) (n : ℕ) (r : Bool) → n ≡ getD b 2 0 → n ≤ 1 → t ≡ drop 3 b → r ≡ isNameVersion t → r ≡ isModule b
-unfolding isModule
-module-is b t n r e l et er = rw (le-leb (getD b 2 0) 1 (omega arith), er, et)
-
-module _ (b t n : List ℕ) (r : Bool) (et : t ≡ drop 2 b) (en : n ≡ nameOf t) (er : r ≡ sameBytes n allUnnamed) where
-  pub requires-bad : r ≡ true → false ≡ isRequires b
-  unfolding isRequires
-  requires-bad e = cc
-
-  pub requires-is : (q : Bool) → r ≡ false → q ≡ isNameVersion t → q ≡ isRequires b
-  unfolding isRequires
-  requires-is q e eq = cc
-
--- a kind that is told
-pub body-told : (k k′ : Kind) (b : List ℕ) (r : Bool) → k ≡ k′ → r ≡ isBody k′ b → r ≡ isBody k b
-body-told k k′ b r e er = cc
 
 -- ---- the next record of a kind
 
@@ -136,6 +80,8 @@ record Found (k : Kind) (off : ℕ) (t : List ℕ) (start len : ℕ) (next : Cur
   next-is : next .at ≡ start + len
   room : start + len ≤ off + length t
   bodies-are : bodies k t ≡ take len (drop (start - off) t) ∷ bodies k (drop (next .at - off) t)
+  nth-here : nthIn k 0 off (records t) ≡ Body start len next
+  nth-later : (i : ℕ) → nthIn k (suc i) off (records t) ≡ nthIn k i (next .at) (records (drop (next .at - off) t))
   first-is : (ns : List (List ℕ)) → firstIn k ns off (records t)
       ≡ pickNext (begins ns (take len (drop (start - off) t))) (Body start len next) (firstIn k ns (next .at) (records (drop (next .at - off) t)))
 
@@ -149,7 +95,7 @@ finds-stop k t e = record {
 }
 
 finds-more : (k : Kind) (t : List ℕ) → whole t ≡ true → Finds k (drop (suc (recordMore t)) t) → Finds k t
-unfolding nextIn bodies bodiesIn whole recordMore bodyOf firstIn
+unfolding nextIn nthIn bodies bodiesIn whole recordMore bodyOf firstIn
 finds-more k t e ih = record { finds = λ off start len next h. go off start len next (isOf k f) refl (sym (ap (nextIn k off) (records-cons t e)) ∙ h) }
   where
     n : ℕ
@@ -183,6 +129,8 @@ finds-more k t e ih = record { finds = λ off start len next h. go off start len
           next-is = omega (arith, long, size, es, el, en);
           room = omega (arith, l, size);
           bodies-are = rw (records-cons t e, eb, d, g, el, size, body);
+          nth-here = rw (records-cons t e, eb, es, el, ← c);
+          nth-later = λ i. rw (records-cons t e, eb, g, en);
           first-is = λ ns. rw (records-cons t e, eb, d, g, es, el, size, body, en, ← c);
         }
 
@@ -195,6 +143,8 @@ finds-more k t e ih = record { finds = λ off start len next h. go off start len
           next-is = p .next-is;
           room = omega (arith, p .room, long, length-drop n t);
           bodies-are = rw (records-cons t e, eb) (p .bodies-are ∙ rw (long, drop-drop (start - (off + n)) n t, drop-drop (next .at - (off + n)) n t, d, g));
+          nth-here = rw (records-cons t e, eb) (p .nth-here);
+          nth-later = λ i. rw (records-cons t e, eb) (p .nth-later i ∙ rw (long, drop-drop (next .at - (off + n)) n t, g));
           first-is = λ ns. rw (records-cons t e, eb) (p .first-is ns ∙ rw (long, drop-drop (start - (off + n)) n t, drop-drop (next .at - (off + n)) n t, d, g));
         }
 
@@ -230,6 +180,20 @@ no-first k ns off (r ∷ rs) e = go (isOf k r) refl (no-first k ns (off + length
     go true eb ih = clash (cc)
     go false eb ih = rw eb (ih (rw eb at e))
 
+no-nth : (k : Kind) (i off : ℕ) (rs : List (List ℕ)) → nextIn k off rs ≡ Nothing → nthIn k i off rs ≡ Nothing
+unfolding nextIn nthIn
+no-nth k i off [] e = refl
+no-nth k zero off (r ∷ rs) e = go (isOf k r) refl (no-nth k zero (off + length r) rs)
+  where
+    go : (b : Bool) → isOf k r ≡ b → (nextIn k (off + length r) rs ≡ Nothing → nthIn k zero (off + length r) rs ≡ Nothing) → nthIn k zero off (r ∷ rs) ≡ Nothing
+    go true eb ih = clash (cc)
+    go false eb ih = rw eb (ih (rw eb at e))
+no-nth k (suc i) off (r ∷ rs) e = go (isOf k r) refl (no-nth k (suc i) (off + length r) rs)
+  where
+    go : (b : Bool) → isOf k r ≡ b → (nextIn k (off + length r) rs ≡ Nothing → nthIn k (suc i) (off + length r) rs ≡ Nothing) → nthIn k (suc i) off (r ∷ rs) ≡ Nothing
+    go true eb ih = clash (cc)
+    go false eb ih = rw eb (ih (rw eb at e))
+
 -- what a loop over the records of one kind knows of each turn
 module _ (k : Kind) (s : List ℕ) (at : ℕ) (r : Next) (er : r ≡ nextOf k s at) where
   module _ (start len : ℕ) (next : Cursor) (e : r ≡ Body start len next) where
@@ -252,6 +216,13 @@ module _ (k : Kind) (s : List ℕ) (at : ℕ) (r : Next) (er : r ≡ nextOf k s 
         let g : at + (next .at - at) ≡ next .at = omega (arith, q .later, q .next-is) in
         q .first-is ns ∙ rw (drop-drop (start - at) at s, drop-drop (next .at - at) at s, d, g)
 
+    -- it is record 0 from here on, and those behind it count from there
+    pub nth-zero : nthIn k 0 at (records (drop at s)) ≡ Body start len next
+    nth-zero = q .nth-here
+
+    pub nth-suc : (i : ℕ) → nthIn k (suc i) at (records (drop at s)) ≡ nthIn k i (next .at) (records (drop (next .at) s))
+    nth-suc i = let g : at + (next .at - at) ≡ next .at = omega (arith, q .later, q .next-is) in q .nth-later i ∙ rw (drop-drop (next .at - at) at s, g)
+
     pub next-room : at ≤ length s → next .at ≤ length s
     next-room l = omega (arith, q .next-is, q .room, length-drop at s)
 
@@ -270,42 +241,135 @@ module _ (k : Kind) (s : List ℕ) (at : ℕ) (r : Next) (er : r ≡ nextOf k s 
   unfolding nextOf bodies
   bodies-end e = no-bodies k at (records (drop at s)) (sym er ∙ e)
 
+  pub nth-end : (i : ℕ) → r ≡ Nothing → nthIn k i at (records (drop at s)) ≡ Nothing
+  unfolding nextOf
+  nth-end i e = no-nth k i at (records (drop at s)) (sym er ∙ e)
+
   pub first-end : (ns : List (List ℕ)) → r ≡ Nothing → firstIn k ns at (records (drop at s)) ≡ Nothing
   unfolding nextOf
   first-end ns e = no-first k ns at (records (drop at s)) (sym er ∙ e)
 
 -- ---- record number i of a kind
 
-getD-pred : (y : List ℕ) (l : List (List ℕ)) (k : ℕ) → (k ≡ 0 → ⊥) → getD (y ∷ l) k [] ≡ getD l (k - 1) []
-getD-pred y l zero z = absurd (z refl)
-getD-pred y l (suc k) z = rw (sub-one (suc k))
+take-front : (n : ℕ) (l : List ℕ) → take (length (take n l)) l ≡ take n l
+take-front zero l = refl
+take-front (suc n) [] = refl
+take-front (suc n) (x ∷ l) = ap {B = List ℕ} (λ r. x ∷ r) (take-front n l)
+
+pred-suc : (n : ℕ) → (n ≡ 0 → ⊥) → n ≡ suc (n - 1)
+pred-suc zero z = absurd (z refl)
+pred-suc (suc n) z = rw (sub-one (suc n))
 
 -- `left` records are to be passed from `at` on
-pub record BodyAt (kind : Kind) (s : List ℕ) (k at left : ℕ) : Type 0 where
+pub record NthAt (kind : Kind) (s : List ℕ) (k at left : ℕ) : Type 0 where
   pub within : at ≤ length s
-  pub rest : getD (bodies kind s) k [] ≡ getD (bodies kind (drop at s)) left []
+  pub rest : nthOf kind k s ≡ nthIn kind left at (records (drop at s))
 
-pub body-start : (kind : Kind) (s : List ℕ) (k : ℕ) → BodyAt kind s k 0 k
-body-start kind s k = record { within = omega arith; rest = refl }
+pub nth-start : (kind : Kind) (s : List ℕ) (k : ℕ) → NthAt kind s k 0 k
+unfolding nthOf
+nth-start kind s k = record { within = omega arith; rest = refl }
 
-module _ (kind : Kind) (s : List ℕ) (k at left : ℕ) (h : BodyAt kind s k at left) (r : Next) (er : r ≡ nextOf kind s at) where
+module _ (kind : Kind) (s : List ℕ) (k at left : ℕ) (h : NthAt kind s k at left) (r : Next) (er : r ≡ nextOf kind s at) where
   module _ (start len : ℕ) (next : Cursor) (e : r ≡ Body start len next) where
-    pub body-here : (b : List ℕ) → left ≡ 0 → b ≡ take len (drop start s) → b ≡ getD (bodies kind s) k []
-    body-here b z eb = eb ∙ sym (h .rest ∙ rw (bodies-next kind s at r er start len next e (h .within), z))
+    pub nth-found : left ≡ 0 → Body start len next ≡ nthOf kind k s
+    nth-found z = sym (h .rest ∙ rw (z, nth-zero kind s at r er start len next e))
 
-    pub body-more : (left ≡ 0 → ⊥) → BodyAt kind s k (next .at) (left - 1)
-    body-more z = record {
-      within = next-room kind s at r er start len next e (h .within);
-      rest = h .rest ∙ rw (bodies-next kind s at r er start len next e (h .within)) (getD-pred (take len (drop start s)) (bodies kind (drop (next .at) s)) left z);
-    }
+    pub nth-more : (left ≡ 0 → ⊥) → NthAt kind s k (next .at) (left - 1)
+    nth-more z =
+        let n : left ≡ suc (left - 1) = pred-suc left z in
+        record {
+          within = next-room kind s at r er start len next e (h .within);
+          rest = h .rest ∙ ap (λ (m : ℕ). nthIn kind m at (records (drop at s))) n ∙ nth-suc kind s at r er start len next e (left - 1);
+        }
 
-    pub body-less : length s - next .at < length s - at
-    body-less = next-less kind s at r er start len next e (h .within)
+    pub nth-less : length s - next .at < length s - at
+    nth-less = next-less kind s at r er start len next e (h .within)
 
-  pub body-none : r ≡ Nothing → [] ≡ getD (bodies kind s) k []
-  body-none e = sym (h .rest ∙ rw (bodies-end kind s at r er e))
+  pub nth-none : r ≡ Nothing → Nothing ≡ nthOf kind k s
+  nth-none e = sym (h .rest ∙ rw (nth-end kind s at r er left e))
 
-pub ruleset body-laws = (body-start, body-here, body-more, body-less, body-none)
+pub ruleset nth-laws = (nth-start, nth-found, nth-more, nth-less, nth-none)
+
+-- where record i stands in t, whose first byte has the offset `off`, its body stands
+record Stands (k : Kind) (i off : ℕ) (t : List ℕ) (start len : ℕ) : Type 0 where
+  later : off + 4 ≤ start
+  body-is : getD (bodies k t) i [] ≡ take len (drop (start - off) t)
+
+record Numbered (k : Kind) (t : List ℕ) : Type 0 where
+  stands : (i off start len : ℕ) (next : Cursor) → nthIn k i off (records t) ≡ Body start len next → Stands k i off t start len
+  none : (i off : ℕ) → nthIn k i off (records t) ≡ Nothing → getD (bodies k t) i [] ≡ []
+
+numbered-stop : (k : Kind) (t : List ℕ) → whole t ≡ false → Numbered k t
+unfolding nthIn bodies bodiesIn
+numbered-stop k t e = record {
+  stands = λ i off start len next h. let n : nthIn k i off (records t) ≡ Nothing = rw (records-none t e) in clash (cc);
+  none = λ i off h. rw (records-none t e);
+}
+
+numbered-more : (k : Kind) (t : List ℕ) → whole t ≡ true → Numbered k (drop (suc (recordMore t)) t) → Numbered k t
+unfolding nthIn bodies bodiesIn whole
+numbered-more k t e ih = record {
+  stands = λ i off start len next h. rw-stands i off start len (go i off start len next (isOf k f) refl (sym (ap (nthIn k i off) (records-cons t e)) ∙ h));
+  none = λ i off h. rw (records-cons t e) (lacks i off (isOf k f) refl (sym (ap (nthIn k i off) (records-cons t e)) ∙ h));
+}
+  where
+    n : ℕ
+    n = suc (recordMore t)
+
+    l : n ≤ length t
+    l = leb-true n (length t) e
+
+    f : List ℕ
+    f = take n t
+
+    u : List ℕ
+    u = drop n t
+
+    long : length f ≡ n
+    long = length-take-le n t l
+
+    At : ℕ → ℕ → ℕ → ℕ → Type 0
+    At i off start len = (off + 4 ≤ start) × (getD (cond (isOf k f) (bodyOf f ∷ bodiesIn k (records u)) (bodiesIn k (records u))) i [] ≡ take len (drop (start - off) t))
+
+    rw-stands : (i off start len : ℕ) → At i off start len → Stands k i off t start len
+    rw-stands i off start len p = record { later = p .0; body-is = rw (records-cons t e) (p .1) }
+
+    deeper : (j off start len : ℕ) → Stands k j (off + length f) u start len → (off + 4 ≤ start) × (getD (bodiesIn k (records u)) j [] ≡ take len (drop (start - off) t))
+    deeper j off start len p =
+        let d : n + (start - (off + n)) ≡ start - off = omega (arith, p .later, long) in
+        (omega (arith, p .later), p .body-is ∙ rw (long, drop-drop (start - (off + n)) n t, d))
+
+    go : (i off start len : ℕ) (next : Cursor) (b : Bool) → isOf k f ≡ b → nthIn k i off (f ∷ records u) ≡ Body start len next → At i off start len
+    go zero off start len next true eb h =
+        let q : Body (off + 4) (length (bodyOf f)) (record { at = off + length f }) ≡ Body start len next = rw eb at h in
+        let es : off + 4 ≡ start = cc in
+        let el : length (bodyOf f) ≡ len = cc in
+        let d : start - off ≡ 4 = omega arith in
+        (omega arith, rw (eb, d, ← el, body-front t) (sym (take-front (sizeOf t) (drop 4 t))))
+    go (suc i) off start len next true eb h = rw eb (deeper i off start len (ih .stands i (off + length f) start len next (rw eb at h)))
+    go zero off start len next false eb h = rw eb (deeper zero off start len (ih .stands zero (off + length f) start len next (rw eb at h)))
+    go (suc i) off start len next false eb h = rw eb (deeper (suc i) off start len (ih .stands (suc i) (off + length f) start len next (rw eb at h)))
+
+    lacks : (i off : ℕ) (b : Bool) → isOf k f ≡ b → nthIn k i off (f ∷ records u) ≡ Nothing → getD (cond (isOf k f) (bodyOf f ∷ bodiesIn k (records u)) (bodiesIn k (records u))) i [] ≡ []
+    lacks zero off true eb h = let z : Body (off + 4) (length (bodyOf f)) (record { at = off + length f }) ≡ Nothing = rw eb at h in clash (cc)
+    lacks (suc i) off true eb h = rw eb (ih .none i (off + length f) (rw eb at h))
+    lacks zero off false eb h = rw eb (ih .none zero (off + length f) (rw eb at h))
+    lacks (suc i) off false eb h = rw eb (ih .none (suc i) (off + length f) (rw eb at h))
+
+numbered : (k : Kind) (t : List ℕ) → Numbered k t
+numbered k = records-ind (Numbered k) (numbered-stop k) (numbered-more k)
+
+-- record i of a kind: where it stands, its body stands
+module _ (kind : Kind) (s : List ℕ) (i : ℕ) (r : Next) (er : r ≡ nthOf kind i s) where
+  pub nth-body : (start len : ℕ) (next : Cursor) (b : List ℕ) → r ≡ Body start len next → b ≡ take len (drop start s) → b ≡ getD (bodies kind s) i []
+  unfolding nthOf
+  nth-body start len next b e eb =
+      let z : start - 0 ≡ start = omega arith in
+      eb ∙ sym (numbered kind s .stands i 0 start len next (sym er ∙ e) .body-is ∙ rw z)
+
+  pub nth-nothing : r ≡ Nothing → [] ≡ getD (bodies kind s) i []
+  unfolding nthOf
+  nth-nothing e = sym (numbered kind s .none i 0 (sym er ∙ e))
 
 -- the name in front of it
 pub nth-name : (kind : Kind) (s : List ℕ) (k : ℕ) (b r : List ℕ) → b ≡ getD (bodies kind s) k [] → r ≡ nameOf b → r ≡ getD (map nameOf (bodies kind s)) k []

@@ -1,5 +1,5 @@
 use Rattle.records.specs.Record.{isBody}
-use Rattle.records.proofs.record.Bodies.{body-told}
+use Rattle.records.proofs.record.Marks.{body-told}
 use borrow.Author.Needs.{needs}
 use Rattle.records.proofs.record.is_body.Statement.{statement}
 use Rattle.records.proofs.record.is_body.Tie as tie

@@ -1,4 +1,4 @@
-use Rattle.records.proofs.record.Bodies.{module-bad, module-is}
+use Rattle.records.proofs.record.Marks.{module-bad, module-is}
 use borrow.Author.Needs.{needs}
 use Rattle.records.proofs.record.is_module.Statement.{statement}
 use Rattle.records.proofs.record.is_module.Tie as tie

@@ -1,4 +1,4 @@
-use Rattle.records.proofs.record.Bodies.{requires-bad, requires-is}
+use Rattle.records.proofs.record.Marks.{requires-bad, requires-is}
 use borrow.Author.Needs.{needs}
 use Rattle.records.proofs.record.is_requires.Statement.{statement}
 use Rattle.records.proofs.record.is_requires.Tie as tie

@@ -1,5 +1,5 @@
 use Rattle.records.specs.Record.{kindIn}
-use Rattle.records.proofs.record.Bodies.{in-told, in-package, in-other}
+use Rattle.records.proofs.record.Marks.{in-told, in-package, in-other}
 use borrow.Author.Needs.{needs}
 use Rattle.records.proofs.record.kind_in.Statement.{statement}
 use Rattle.records.proofs.record.kind_in.Tie as tie

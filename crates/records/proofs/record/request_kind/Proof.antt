@@ -1,6 +1,6 @@
 use Rattle.records.specs.Record.{requestKind}
 use borrow.Author.Needs.{needs}
-use Rattle.records.proofs.record.Bodies.{kind-at, request-other}
+use Rattle.records.proofs.record.Marks.{kind-at, request-other}
 use Rattle.records.proofs.record.request_kind.Statement.{statement}
 use Rattle.records.proofs.record.request_kind.Tie as tie
 

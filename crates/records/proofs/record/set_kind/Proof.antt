@@ -1,6 +1,6 @@
 use Rattle.records.specs.Record.{setKind}
 use borrow.Author.Needs.{needs}
-use Rattle.records.proofs.record.Bodies.{kind-at, set-other}
+use Rattle.records.proofs.record.Marks.{kind-at, set-other}
 use Rattle.records.proofs.record.set_kind.Statement.{statement}
 use Rattle.records.proofs.record.set_kind.Tie as tie
 

@@ -1,5 +1,5 @@
 use Rattle.records.specs.Record.{markFor}
-use Rattle.records.proofs.record.Bodies.{mark-told}
+use Rattle.records.proofs.record.Marks.{mark-told}
 use borrow.Author.Needs.{needs}
 use Rattle.records.proofs.record.Kind.mark.Statement.{statement}
 use Rattle.records.proofs.record.Kind.mark.Tie as tie
