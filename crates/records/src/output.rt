@@ -4,18 +4,15 @@ ghost use mathlib.Core.List.{_++_, map};
 ghost use mathlib.Core.Bool.{true};
 ghost use Prim.Native.Nat.{_+_, _*_, _≤_};
 ghost use lib.ListN.{length, take};
-ghost use Rattle.records.specs.Output.{written};
-ghost use Rattle.records.specs.Order.{nameIn};
-ghost use Rattle.records.specs.Output.{packagesSize, twoBytes, nameBytes, moduleRecord, group, noTargets, packageRecords, automaticRecords};
-ghost use Rattle.records.specs.Order.{allShort};
-ghost use Rattle.records.specs.declared.record.Kind.the-variants.{Exports, Opens};
+ghost use Rattle.records.specs.Output.{written, Put, packagesSize, marked, moduleRecord, baseRecord, groupOf, namesIn, GroupRoom, entryRecords, packageRecords, PackagesRoom, automaticRecords};
+ghost use Rattle.records.specs.Order.{nameIn, allShort};
+use crate::bytes::head;
 use crate::order::name_in;
-use crate::record::Kind;
 
 // Writes s at `at`, and returns the place behind it.
 fn put(out: &mut [u8], at: usize, s: &[u8]) -> usize
     requires { ⌜ at + length (now s) ≤ length (now out) ⌝ }
-    ensures { λ r. ⌜ (r ≡ at + length (now (s .entry))) × (now (out .exit) ≡ written (now (out .entry)) at (now (s .entry))) ⌝ }
+    ensures { λ r. ⌜ Put (now (out .entry)) at (now (s .entry)) (now (out .exit)) r ⌝ }
 {
     let mut i: usize = 0;
     while i < s.len() {
@@ -42,12 +39,22 @@ pub fn size(packages: &[u8], table: &[usize], count: usize) -> usize
     n
 }
 
+// Writes the name between `front` and `end`, and returns the place behind them.
+fn put_named(out: &mut [u8], at: usize, front: &[u8], name: &[u8], end: &[u8]) -> usize
+    requires { ⌜ at + (length (now front) + (length (now name) + length (now end))) ≤ length (now out) ⌝ }
+    ensures { λ r. ⌜ Put (now (out .entry)) at (now (front .entry) ++ (now (name .entry) ++ now (end .entry))) (now (out .exit)) r ⌝ }
+{
+    let b = put(out, at, front);
+    let c = put(out, b, name);
+    put(out, c, end)
+}
+
 // Writes a record with this mark whose body is the name and then `end`, and returns the place behind it.
 fn put_record(out: &mut [u8], at: usize, mark: usize, name: &[u8], end: &[u8]) -> usize
     requires { ⌜ at + (5 + length (now name) + length (now end)) ≤ length (now out) ⌝ }
     requires { ⌜ length (now name) ≤ 255 ⌝ }
     requires { ⌜ length (now end) ≤ 2 ⌝ }
-    ensures { λ r. ⌜ (r ≡ at + (5 + length (now (name .entry)) + length (now (end .entry)))) × (now (out .exit) ≡ written (now (out .entry)) at (twoBytes mark ++ (twoBytes (length (nameBytes (now (name .entry)) ++ now (end .entry))) ++ (nameBytes (now (name .entry)) ++ now (end .entry))))) ⌝ }
+    ensures { λ r. ⌜ Put (now (out .entry)) at (marked mark (now (name .entry)) (now (end .entry))) (now (out .exit)) r ⌝ }
 {
     let n = name.len();
     let len = 1 + n + end.len();
@@ -58,29 +65,24 @@ fn put_record(out: &mut [u8], at: usize, mark: usize, name: &[u8], end: &[u8]) -
         (len % 256) as u8,
         n as u8,
     ];
-    let b = put(out, at, &front);
-    let c = put(out, b, name);
-    put(out, c, end)
+    put_named(out, at, &front, name, end)
 }
 
-// Writes a record of this kind for each of the table's first `count` packages, with a body of the name and then `end`, and
-// returns the place behind them.
+// Writes a record with this mark for each of the table's first `count` packages, with a body of the name and then `extra`
+// zeros, and returns the place behind them.
 fn put_group(
     out: &mut [u8],
     at: usize,
-    kind: Kind,
+    mark: usize,
+    extra: usize,
     packages: &[u8],
     table: &[usize],
     count: usize,
-    end: &[u8],
 ) -> usize
-    requires { ⌜ count ≤ length (now table) ⌝ }
-    requires { ⌜ at + length (group kind (now end) (map (nameIn (now packages)) (take count (now table)))) ≤ length (now out) ⌝ }
-    requires { ⌜ allShort (map (nameIn (now packages)) (take count (now table))) ≡ true ⌝ }
-    requires { ⌜ length (now end) ≤ 2 ⌝ }
-    ensures { λ r. ⌜ (r ≡ at + length (group kind (now (end .entry)) (map (nameIn (now (packages .entry))) (take count (now (table .entry)))))) × (now (out .exit) ≡ written (now (out .entry)) at (group kind (now (end .entry)) (map (nameIn (now (packages .entry))) (take count (now (table .entry)))))) ⌝ }
+    requires { ⌜ GroupRoom (now out) at mark extra (now packages) (now table) count ⌝ }
+    ensures { λ r. ⌜ Put (now (out .entry)) at (groupOf mark extra (namesIn (now (packages .entry)) (now (table .entry)) count)) (now (out .exit)) r ⌝ }
 {
-    let mark = kind.mark();
+    let end = head(b"\x00\x00", extra);
     let mut b = at;
     let mut i: usize = 0;
     while i < count {
@@ -91,11 +93,12 @@ fn put_group(
     b
 }
 
-// Writes the MO record of an automatic module of this name, and returns the place behind it.
-fn put_module(out: &mut [u8], at: usize, name: &[u8]) -> usize
-    requires { ⌜ at + (9 + length (now name)) ≤ length (now out) ⌝ }
+// Writes the MO record of an automatic module of this name at the front of `out`, and RQ java.base behind it, and returns
+// the place behind them.
+fn put_module(out: &mut [u8], name: &[u8]) -> usize
+    requires { ⌜ 26 + length (now name) ≤ length (now out) ⌝ }
     requires { ⌜ length (now name) ≤ 255 ⌝ }
-    ensures { λ r. ⌜ (r ≡ at + (9 + length (now (name .entry)))) × (now (out .exit) ≡ written (now (out .entry)) at (moduleRecord (now (name .entry)))) ⌝ }
+    ensures { λ r. ⌜ Put (now (out .entry)) 0 (moduleRecord (now (name .entry)) ++ baseRecord) (now (out .exit)) r ⌝ }
 {
     let n = name.len();
     let len = 5 + n;
@@ -109,32 +112,32 @@ fn put_module(out: &mut [u8], at: usize, name: &[u8]) -> usize
         1,
         n as u8,
     ];
-    let b = put(out, at, &front);
-    let c = put(out, b, name);
-    put(out, c, b"\x00")
+    put_named(
+        out,
+        0,
+        &front,
+        name,
+        b"\x00RQ\x00\x0d\x80\x00\x09java.base\x00",
+    )
 }
 
-// Writes an EX record for each of the table's first `count` packages, and then an OP record for each, all unqualified, and
-// returns the place behind them.
+// Writes an EX record for each of the table's first `count` packages, and then an OP record for each, and returns the place
+// behind them.
 fn put_entries(out: &mut [u8], at: usize, packages: &[u8], table: &[usize], count: usize) -> usize
-    requires { ⌜ count ≤ length (now table) ⌝ }
-    requires { ⌜ at + (length (group Exports noTargets (map (nameIn (now packages)) (take count (now table)))) + length (group Opens noTargets (map (nameIn (now packages)) (take count (now table))))) ≤ length (now out) ⌝ }
-    requires { ⌜ allShort (map (nameIn (now packages)) (take count (now table))) ≡ true ⌝ }
-    ensures { λ r. ⌜ (r ≡ at + (length (group Exports noTargets (map (nameIn (now (packages .entry))) (take count (now (table .entry))))) + length (group Opens noTargets (map (nameIn (now (packages .entry))) (take count (now (table .entry))))))) × (now (out .exit) ≡ written (now (out .entry)) at (group Exports noTargets (map (nameIn (now (packages .entry))) (take count (now (table .entry)))) ++ group Opens noTargets (map (nameIn (now (packages .entry))) (take count (now (table .entry)))))) ⌝ }
+    requires { ⌜ PackagesRoom (now out) at (now packages) (now table) count ⌝ }
+    ensures { λ r. ⌜ Put (now (out .entry)) at (entryRecords (namesIn (now (packages .entry)) (now (table .entry)) count)) (now (out .exit)) r ⌝ }
 {
-    let b = put_group(out, at, Kind::Exports, packages, table, count, b"\x00\x00");
-    put_group(out, b, Kind::Opens, packages, table, count, b"\x00\x00")
+    let b = put_group(out, at, 0x4558, 2, packages, table, count);
+    put_group(out, b, 0x4F50, 2, packages, table, count)
 }
 
 // Writes an EX, an OP and a PK record for each of the table's first `count` packages, and returns the place behind them.
 fn put_packages(out: &mut [u8], at: usize, packages: &[u8], table: &[usize], count: usize) -> usize
-    requires { ⌜ count ≤ length (now table) ⌝ }
-    requires { ⌜ at + packagesSize (map (nameIn (now packages)) (take count (now table))) ≤ length (now out) ⌝ }
-    requires { ⌜ allShort (map (nameIn (now packages)) (take count (now table))) ≡ true ⌝ }
-    ensures { λ r. ⌜ (r ≡ at + packagesSize (map (nameIn (now (packages .entry))) (take count (now (table .entry))))) × (now (out .exit) ≡ written (now (out .entry)) at (packageRecords (map (nameIn (now (packages .entry))) (take count (now (table .entry)))))) ⌝ }
+    requires { ⌜ PackagesRoom (now out) at (now packages) (now table) count ⌝ }
+    ensures { λ r. ⌜ Put (now (out .entry)) at (packageRecords (namesIn (now (packages .entry)) (now (table .entry)) count)) (now (out .exit)) r ⌝ }
 {
     let b = put_entries(out, at, packages, table, count);
-    put_group(out, b, Kind::Package, packages, table, count, b"")
+    put_group(out, b, 0x504B, 0, packages, table, count)
 }
 
 // Writes the records of an automatic module of this name with the table's first `count` packages at the front of `out`, and
@@ -152,7 +155,6 @@ pub fn write_records(
     requires { ⌜ allShort (map (nameIn (now packages)) (take count (now table))) ≡ true ⌝ }
     ensures { λ r. ⌜ (r ≡ length (automaticRecords (now (name .entry)) (map (nameIn (now (packages .entry))) (take count (now (table .entry)))))) × (now (out .exit) ≡ written (now (out .entry)) 0 (automaticRecords (now (name .entry)) (map (nameIn (now (packages .entry))) (take count (now (table .entry)))))) ⌝ }
 {
-    let a = put_module(out, 0, name);
-    let b = put(out, a, b"RQ\x00\x0d\x80\x00\x09java.base\x00");
-    put_packages(out, b, packages, table, count)
+    let a = put_module(out, name);
+    put_packages(out, a, packages, table, count)
 }

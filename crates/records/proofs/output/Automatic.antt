@@ -1,105 +1,116 @@
 -- The records of an automatic module, written one after another.
 use Prim.Native.Nat.{ℕ, _+_, _≤_}
-use mathlib.Core.Path.{_≡_, refl, _∙_}
-use mathlib.Core.List.{List, [], _∷_, _++_, append-assoc}
+use mathlib.Core.Path.{_≡_, sym, _∙_, ap}
+use mathlib.Core.List.{List, [], _∷_, _++_, map, append-assoc}
+use mathlib.Core.Bool.{true}
 use native.Mathlib.Omega.{arith}
-use lib.ListN.{length, length-append}
-use Rattle.records.specs.Output.{written}
+use lib.ListN.{length, take, length-append}
 use Rattle.records.specs.Record.{markFor}
-use Rattle.records.specs.Output.{twoBytes, nameBytes, recordBytes, moduleRecord, baseRecord, group, noTargets, packageRecords, automaticRecords, packagesSize}
+use Rattle.records.specs.Order.{nameIn, allShort}
+use Rattle.records.specs.Output.{written, Put, moduleRecord, baseRecord, groupOf, packageRecords, automaticRecords, packagesSize, namesIn, GroupRoom, entryRecords, PackagesRoom}
 use Rattle.records.specs.declared.record.Kind.the-variants.{Exports, Opens, Package}
-use Rattle.records.proofs.output.Written.{put-both, put-three, written-long}
-use Rattle.records.proofs.output.Records.{module-long}
-use Rattle.records.proofs.output.Groups.{groupOf, groupOf-long, group-marked}
+use Rattle.records.proofs.output.Written.{put-room, put-both}
+use Rattle.records.proofs.output.Records.{both-long}
+use Rattle.records.proofs.output.Groups.{groupOf-long, group-marked}
 
 -- ---- lengths
 
--- RQ, flags 0x8000, java.base, no version
-abbrev pub base-bytes : List ℕ
-base-bytes = 82 ∷ 81 ∷ 0 ∷ 13 ∷ 128 ∷ 0 ∷ 9 ∷ 106 ∷ 97 ∷ 118 ∷ 97 ∷ 46 ∷ 98 ∷ 97 ∷ 115 ∷ 101 ∷ 0 ∷ []
-
-base-is : baseRecord ≡ base-bytes
-unfolding baseRecord recordBytes twoBytes nameBytes markFor
-base-is = refl
-
 -- three records for each package
-groups-long : (m k l : ℕ) (ps : List (List ℕ)) → length (groupOf m noTargets ps) + (length (groupOf k noTargets ps) + length (groupOf l [] ps)) ≡ packagesSize ps
+groups-long : (m k l : ℕ) (ps : List (List ℕ)) → length (groupOf m 2 ps) + (length (groupOf k 2 ps) + length (groupOf l 0 ps)) ≡ packagesSize ps
 unfolding groupOf packagesSize
 groups-long m k l [] = omega arith
 groups-long m k l (p ∷ ps) =
-    omega (arith, groups-long m k l ps, groupOf-long m noTargets p ps, groupOf-long k noTargets p ps, groupOf-long l [] p ps)
+    omega (arith, groups-long m k l ps, groupOf-long m 2 p ps (omega arith), groupOf-long k 2 p ps (omega arith), groupOf-long l 0 p ps (omega arith))
 
-kinds-long : (ps : List (List ℕ)) → length (group Exports noTargets ps) + (length (group Opens noTargets ps) + length (group Package [] ps)) ≡ packagesSize ps
-kinds-long ps =
-    rw (group-marked Exports noTargets ps, group-marked Opens noTargets ps, group-marked Package [] ps)
-    (groups-long (markFor Exports) (markFor Opens) (markFor Package) ps)
+groups-are : (ps : List (List ℕ)) → packageRecords ps ≡ groupOf 0x4558 2 ps ++ (groupOf 0x4F50 2 ps ++ groupOf 0x504B 0 ps)
+unfolding packageRecords markFor
+groups-are ps = rw (group-marked Exports 2 ps, group-marked Opens 2 ps, group-marked Package 0 ps)
 
-pub packages-long : (ps : List (List ℕ)) → length (packageRecords ps) ≡ packagesSize ps
-unfolding packageRecords
+packages-long : (ps : List (List ℕ)) → length (packageRecords ps) ≡ packagesSize ps
 packages-long ps =
-    length-append (group Exports noTargets ps) (group Opens noTargets ps ++ group Package [] ps)
-    ∙ rw (length-append (group Opens noTargets ps) (group Package [] ps)) (kinds-long ps)
+    rw (groups-are ps, length-append (groupOf 0x4558 2 ps) (groupOf 0x4F50 2 ps ++ groupOf 0x504B 0 ps), length-append (groupOf 0x4F50 2 ps) (groupOf 0x504B 0 ps))
+    (groups-long 0x4558 0x4F50 0x504B ps)
 
 pub records-size : (n : List ℕ) (ps : List (List ℕ)) → length (automaticRecords n ps) ≡ 26 + length n + packagesSize ps
 unfolding automaticRecords packageRecords
 records-size n ps =
-    length-append (moduleRecord n) (baseRecord ++ packageRecords ps)
-    ∙ rw (length-append baseRecord (packageRecords ps), packages-long ps, module-long n, base-is) (omega arith)
+    ap length (sym (append-assoc (moduleRecord n) baseRecord (packageRecords ps)))
+    ∙ rw (length-append (moduleRecord n ++ baseRecord) (packageRecords ps), packages-long ps, both-long n) (omega arith)
 
 -- ---- the three groups: the room for them, and what is written
 
-module _ (o : List ℕ) (at : ℕ) (ps : List (List ℕ)) (room : at + packagesSize ps ≤ length o) where
-  pub entries-room : at + (length (group Exports noTargets ps) + length (group Opens noTargets ps)) ≤ length o
-  entries-room = omega (arith, room, kinds-long ps)
+module _ (o : List ℕ) (at : ℕ) (s t : List ℕ) (count : ℕ) (h : PackagesRoom o at s t count) where
+  abbrev ps : List (List ℕ)
+  ps = namesIn s t count
 
-  module _ (o₁ : List ℕ) (b : ℕ) (eb : b ≡ at + (length (group Exports noTargets ps) + length (group Opens noTargets ps))) where
-    module _ (e₁ : o₁ ≡ written o at (group Exports noTargets ps ++ group Opens noTargets ps)) where
-      both-long : length (group Exports noTargets ps ++ group Opens noTargets ps) ≡ length (group Exports noTargets ps) + length (group Opens noTargets ps)
-      both-long = length-append (group Exports noTargets ps) (group Opens noTargets ps)
+  more : at + (length (groupOf 0x4558 2 ps) + (length (groupOf 0x4F50 2 ps) + length (groupOf 0x504B 0 ps))) ≤ length o
+  more = omega (arith, h .room, groups-long 0x4558 0x4F50 0x504B ps)
 
-      pub package-room : b + length (group Package [] ps) ≤ length o₁
-      package-room =
-          let long : length o₁ ≡ length o =
-          rw e₁ (written-long o at (group Exports noTargets ps ++ group Opens noTargets ps) (rw both-long entries-room)) in
-          omega (arith, eb, long, room, kinds-long ps)
+  pub exports-room : GroupRoom o at 0x4558 2 s t count
+  exports-room = record { entries = h .entries; ends = omega arith; room = omega (arith, more); short = h .short }
 
-      pub packages-bytes : (o₂ : List ℕ) → o₂ ≡ written o₁ b (group Package [] ps) → o₂ ≡ written o at (packageRecords ps)
-      unfolding packageRecords
-      packages-bytes o₂ e₂ =
-          put-both o o₁ o₂ (group Exports noTargets ps ++ group Opens noTargets ps) (group Package [] ps) at b
-          (rw both-long entries-room) (rw both-long eb) e₁ e₂
-          ∙ rw (append-assoc (group Exports noTargets ps) (group Opens noTargets ps) (group Package [] ps))
+  module _ (o₁ : List ℕ) (b : ℕ) (p : Put o at (groupOf 0x4558 2 ps) o₁ b) where
+    more₁ : b + (length (groupOf 0x4F50 2 ps) + length (groupOf 0x504B 0 ps)) ≤ length o₁
+    more₁ = put-room o at (groupOf 0x4558 2 ps) o₁ b (length (groupOf 0x4F50 2 ps) + length (groupOf 0x504B 0 ps)) more p
 
-    pub packages-place : (r : ℕ) → r ≡ b + length (group Package [] ps) → r ≡ at + packagesSize ps
-    packages-place r er = omega (arith, eb, er, kinds-long ps)
+    pub opens-room : GroupRoom o₁ b 0x4F50 2 s t count
+    opens-room = record { entries = h .entries; ends = omega arith; room = omega (arith, more₁); short = h .short }
 
--- ---- MO, RQ and the packages
+    pub entries-put : (o₂ : List ℕ) (c : ℕ) → Put o₁ b (groupOf 0x4F50 2 ps) o₂ c → Put o at (entryRecords ps) o₂ c
+    unfolding entryRecords
+    entries-put o₂ c q = put-both o at (groupOf 0x4558 2 ps) o₁ b (groupOf 0x4F50 2 ps) o₂ c (omega (arith, more)) p q
 
-module _ (o n : List ℕ) (ps : List (List ℕ)) (room : length (automaticRecords n ps) ≤ length o) where
-  pub module-room : 0 + (9 + length n) ≤ length o
-  module-room = omega (arith, room, records-size n ps)
+  module _ (o₁ : List ℕ) (b : ℕ) (p : Put o at (entryRecords ps) o₁ b) where
+    more₂ : at + (length (entryRecords ps) + length (groupOf 0x504B 0 ps)) ≤ length o
+    unfolding entryRecords
+    more₂ = rw (length-append (groupOf 0x4558 2 ps) (groupOf 0x4F50 2 ps)) (omega (arith, more))
 
-  module _ (o₁ : List ℕ) (a : ℕ) (ea : a ≡ 0 + (9 + length n)) (e₁ : o₁ ≡ written o 0 (moduleRecord n)) where
-    long-module : length o₁ ≡ length o
-    long-module = rw e₁ (written-long o 0 (moduleRecord n) (rw module-long module-room))
+    pub package-room : GroupRoom o₁ b 0x504B 0 s t count
+    package-room = record {
+      entries = h .entries;
+      ends = omega arith;
+      room = put-room o at (entryRecords ps) o₁ b (length (groupOf 0x504B 0 ps)) more₂ p;
+      short = h .short;
+    }
 
-    pub base-room : a + length base-bytes ≤ length o₁
-    base-room = omega (arith, ea, long-module, room, records-size n ps)
+    pub packages-put : (o₂ : List ℕ) (c : ℕ) → Put o₁ b (groupOf 0x504B 0 ps) o₂ c → Put o at (packageRecords ps) o₂ c
+    unfolding entryRecords
+    packages-put o₂ c q =
+        let e : packageRecords ps ≡ entryRecords ps ++ groupOf 0x504B 0 ps =
+        groups-are ps ∙ sym (append-assoc (groupOf 0x4558 2 ps) (groupOf 0x4F50 2 ps) (groupOf 0x504B 0 ps)) in
+        rw e (put-both o at (entryRecords ps) o₁ b (groupOf 0x504B 0 ps) o₂ c (omega (arith, more₂)) p q)
 
-    module _ (o₂ : List ℕ) (b : ℕ) (eb : b ≡ a + length base-bytes) (e₂ : o₂ ≡ written o₁ a base-bytes) where
-      pub packages-room : b + packagesSize ps ≤ length o₂
-      packages-room =
-          let long : length o₂ ≡ length o₁ = rw e₂ (written-long o₁ a base-bytes base-room) in
-          omega (arith, ea, eb, long, long-module, room, records-size n ps)
+-- ---- MO and RQ, and the groups
 
-      pub records-place : (r : ℕ) → r ≡ b + packagesSize ps → r ≡ length (automaticRecords n ps)
-      records-place r er = omega (arith, ea, eb, er, records-size n ps)
+module _ (o n s t : List ℕ) (count : ℕ) (room : length (automaticRecords n (map (nameIn s) (take count t))) ≤ length o) where
+  size : 26 + length n + packagesSize (namesIn s t count) ≤ length o
+  unfolding namesIn
+  size = omega (arith, room, records-size n (namesIn s t count))
 
-      pub records-bytes : (o₃ : List ℕ) → o₃ ≡ written o₂ b (packageRecords ps) → o₃ ≡ written o 0 (automaticRecords n ps)
-      unfolding automaticRecords packageRecords
-      records-bytes o₃ e₃ =
-          put-three o o₁ o₂ o₃ (moduleRecord n) base-bytes (packageRecords ps) 0 a b
-          (rw module-long (omega (arith, room, records-size n ps))) (rw module-long ea) e₁ eb e₂ e₃
-          ∙ rw base-is
+  pub head-room : 26 + length n ≤ length o
+  head-room = omega (arith, size)
 
-pub ruleset write-records-laws = (module-room, base-room, packages-room, records-place, records-bytes)
+  module _ (o₁ : List ℕ) (a : ℕ) (p : Put o 0 (moduleRecord n ++ baseRecord) o₁ a) where
+    pub packages-room : count ≤ length t → allShort (map (nameIn s) (take count t)) ≡ true → PackagesRoom o₁ a s t count
+    unfolding namesIn
+    packages-room entries short = record {
+      entries = entries;
+      room = put-room o 0 (moduleRecord n ++ baseRecord) o₁ a (packagesSize (namesIn s t count)) (omega (arith, size, both-long n)) p;
+      short = short;
+    }
+
+    module _ (o₂ : List ℕ) (b : ℕ) (q : Put o₁ a (packageRecords (namesIn s t count)) o₂ b) where
+      whole : (moduleRecord n ++ baseRecord) ++ packageRecords (namesIn s t count) ≡ automaticRecords n (map (nameIn s) (take count t))
+      unfolding automaticRecords packageRecords namesIn
+      whole = append-assoc (moduleRecord n) baseRecord (packageRecords (namesIn s t count))
+
+      all : Put o 0 (automaticRecords n (map (nameIn s) (take count t))) o₂ b
+      all =
+          rw whole at
+          (put-both o 0 (moduleRecord n ++ baseRecord) o₁ a (packageRecords (namesIn s t count)) o₂ b (omega (arith, size, both-long n)) p q)
+
+      pub records-place : b ≡ length (automaticRecords n (map (nameIn s) (take count t)))
+      records-place = omega (arith, all .place)
+
+      pub records-bytes : o₂ ≡ written o 0 (automaticRecords n (map (nameIn s) (take count t)))
+      records-bytes = all .bytes

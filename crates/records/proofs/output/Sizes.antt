@@ -10,18 +10,16 @@ use mir.Syntax.{w64}
 use mir.Val.{Fits}
 use mir.Facts.{fits-below}
 use Rattle.records.specs.Order.{nameIn}
-use Rattle.records.specs.Output.{packagesSize}
+use Rattle.records.specs.Output.{packagesSize, namesIn}
 
 -- ---- the packages of a table
 
--- the names of its first `count` entries
-abbrev pub namesIn : List ℕ → List ℕ → ℕ → List (List ℕ)
-namesIn s t count = map (nameIn s) (take count t)
-
 pub names-long : (s t : List ℕ) (count : ℕ) → count ≤ length t → length (namesIn s t count) ≡ count
+unfolding namesIn
 names-long s t count h = length-map (take count t) (nameIn s) ∙ length-take-le count t h
 
 pub names-next : (s t : List ℕ) (count i : ℕ) → count ≤ length t → i < count → drop i (namesIn s t count) ≡ nameIn s (getD t i 0) ∷ drop (suc i) (namesIn s t count)
+unfolding namesIn
 names-next s t count i h l =
     drop-cons (namesIn s t count) i (nameIn s 0) (omega (arith, names-long s t count h))
     ∙ rw (List·getD-map (nameIn s) (take count t) i 0, getD-take count t i 0 l)
@@ -77,11 +75,9 @@ module _ {s t : List ℕ} {count n i : ℕ} (h : SizeAt s t count n i) where
       left = h .left ∙ rw (names-next s t count i (h .entries) l, add-one i, ← er) (omega arith);
     }
 
-  pub size-done : count ≤ i → n ≡ packagesSize (namesIn s t count)
-  unfolding packagesSize
+  pub size-done : count ≤ i → n ≡ packagesSize (map (nameIn s) (take count t))
+  unfolding packagesSize namesIn
   size-done l = sym (h .left ∙ rw (names-end s t count i (h .entries) l) (omega arith))
 
   pub size-low : count ≤ i → n ≤ count * 196624
   size-low l = omega (arith, h .within, h .low)
-
-pub ruleset size-laws = (size-start, size-mul, size-term, size-sum, size-more, size-done, size-low)

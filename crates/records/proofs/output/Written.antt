@@ -7,7 +7,7 @@ use native.Mathlib.Nat.{add-assoc, add-zero}
 use native.Mathlib.Numerals.{add-one}
 use lib.ListN.{length, getD, take, drop, set, length-set, length-append, length-drop, take-append-drop}
 use lib.Seq.{paste, paste-zero, paste-suc, take-all, take-at, drop-append-add, drop-drop, length-take-le}
-use Rattle.records.specs.Output.{written}
+use Rattle.records.specs.Output.{written, Put}
 
 -- the bytes in front and those written, then the bytes behind
 flat : (o : List ℕ) (at : ℕ) (s : List ℕ) → written o at s ≡ (take at o ++ s) ++ drop (at + length s) o
@@ -33,15 +33,10 @@ module _ (o : List ℕ) (at : ℕ) (s out : List ℕ) (i : ℕ) (h : PutAt o at 
     done = rw (h .done, add-one i) (paste-suc o at s i 0 (omega (arith, h .room)) l);
   }
 
-  pub put-count : length s ≤ i → at + i ≡ at + length s
-  put-count l = omega (arith, h .within)
-
-  pub put-bytes : length s ≤ i → out ≡ written o at s
-  put-bytes l =
+  pub put-done : length s ≤ i → Put o at s out (at + i)
+  put-done l =
       let e : i ≡ length s = omega (arith, h .within) in
-      h .done ∙ rw (e, take-all (length s) s (omega arith)) (sym (flat o at s))
-
-pub ruleset put-laws = (put-start, put-more, put-count, put-bytes)
+      record { place = rw e; bytes = h .done ∙ rw (e, take-all (length s) s (omega arith)) (sym (flat o at s)) }
 
 drop-past : (p d : List ℕ) (n m : ℕ) → length p ≡ n → drop (n + m) (p ++ d) ≡ drop m d
 drop-past p d n m e = rw (← e) (drop-append-add p d m)
@@ -64,19 +59,36 @@ pub written-long : (o : List ℕ) (at : ℕ) (s : List ℕ) → at + length s �
 unfolding written
 written-long o at s h = simp (length-append, length-drop, length-take-le at o (omega arith)) (omega arith)
 
+-- what was written leaves the buffer as long as it was
+pub put-long : (o : List ℕ) (at : ℕ) (s out : List ℕ) (r : ℕ) → at + length s ≤ length o → Put o at s out r → length out ≡ length o
+put-long o at s out r h p = rw (p .bytes) (written-long o at s h)
+
+-- the room behind it
+pub put-room : (o : List ℕ) (at : ℕ) (s out : List ℕ) (r n : ℕ) → at + (length s + n) ≤ length o → Put o at s out r → r + n ≤ length out
+put-room o at s out r n h p = omega (arith, h, p .place, put-long o at s out r (omega arith) p)
+
 -- two pieces in a row
-pub put-both : (o o₁ o₂ s t : List ℕ) (at b : ℕ) → at + length s ≤ length o → b ≡ at + length s → o₁ ≡ written o at s → o₂ ≡ written o₁ b t → o₂ ≡ written o at (s ++ t)
-put-both o o₁ o₂ s t at b h eb e₁ e₂ = e₂ ∙ rw (e₁, eb) (written-two o at s t h)
+pub put-both : (o : List ℕ) (at : ℕ) (s o₁ : List ℕ) (b : ℕ) (t o₂ : List ℕ) (c : ℕ) → at + length s ≤ length o → Put o at s o₁ b → Put o₁ b t o₂ c → Put o at (s ++ t) o₂ c
+put-both o at s o₁ b t o₂ c h p q = record {
+  place = rw (length-append s t) (omega (arith, p .place, q .place));
+  bytes = q .bytes ∙ rw (p .bytes, p .place) (written-two o at s t h);
+}
 
--- the same where there was room for both
-pub put-pair : (o o₁ o₂ s t : List ℕ) (at b : ℕ) → at + (length s + length t) ≤ length o → b ≡ at + length s → o₁ ≡ written o at s → o₂ ≡ written o₁ b t → o₂ ≡ written o at (s ++ t)
-put-pair o o₁ o₂ s t at b h = put-both o o₁ o₂ s t at b (omega arith)
+-- three pieces in a row: the room for each, and what is written
+module _ (o : List ℕ) (at : ℕ) (s t u : List ℕ) (h : at + (length s + (length t + length u)) ≤ length o) where
+  pub first-room : at + length s ≤ length o
+  first-room = omega (arith, h)
 
--- three pieces in a row
-pub put-three : (o o₁ o₂ o₃ s t u : List ℕ) (at b c : ℕ) → at + (length s + length t) ≤ length o → b ≡ at + length s → o₁ ≡ written o at s
-    → c ≡ b + length t → o₂ ≡ written o₁ b t → o₃ ≡ written o₂ c u → o₃ ≡ written o at (s ++ (t ++ u))
-put-three o o₁ o₂ o₃ s t u at b c h eb e₁ ec e₂ e₃ =
-    let two : o₂ ≡ written o at (s ++ t) = put-both o o₁ o₂ s t at b (omega arith) eb e₁ e₂ in
-    let place : c ≡ at + length (s ++ t) = rw length-append (omega arith) in
-    let room : at + length (s ++ t) ≤ length o = rw length-append (omega arith) in
-    e₃ ∙ rw (two, place, written-two o at (s ++ t) u room, append-assoc s t u)
+  module _ (o₁ : List ℕ) (b : ℕ) (p : Put o at s o₁ b) where
+    more : b + (length t + length u) ≤ length o₁
+    more = put-room o at s o₁ b (length t + length u) h p
+
+    pub second-room : b + length t ≤ length o₁
+    second-room = omega (arith, more)
+
+    module _ (o₂ : List ℕ) (c : ℕ) (q : Put o₁ b t o₂ c) where
+      pub third-room : c + length u ≤ length o₂
+      third-room = put-room o₁ b t o₂ c (length u) more q
+
+      pub put-three : (o₃ : List ℕ) (d : ℕ) → Put o₂ c u o₃ d → Put o at (s ++ (t ++ u)) o₃ d
+      put-three o₃ d r = put-both o at s o₁ b (t ++ u) o₃ d first-room p (put-both o₁ b t o₂ c u o₃ d second-room q r)

@@ -1,7 +1,7 @@
 use Prim.Native.Nat.{_-_}
 use lib.ListN.{length}
 use borrow.Author.Needs.{needs}
-use Rattle.records.proofs.output.Written.{PutAt, put-laws}
+use Rattle.records.proofs.output.Written.{PutAt, put-start, put-more, put-done}
 use Rattle.records.proofs.output.put.Statement.{statement}
 use Rattle.records.proofs.output.put.Tie as tie
 
@@ -17,13 +17,13 @@ put-spec =
     (tie.spec
     Inv-loop
     μ-loop
-    (λ c. search (put-laws, needs))
-    (λ c. search (put-laws, needs))
-    (λ c. search (put-laws, needs))
-    (λ c. search (put-laws, needs))
-    (λ c. search (put-laws, needs))
-    (λ c. search (put-laws, needs))
-    (λ c. search (put-laws, needs))
-    (λ c. search (put-laws, needs))
-    (λ c. search (put-laws, needs))
-    (λ c. search (put-laws, needs)))
+    (λ c. search put-start)
+    (λ c. search needs)
+    (λ c. search needs)
+    (λ c. search needs)
+    (λ c. search needs)
+    (λ c. search needs)
+    (λ c. search put-more)
+    (λ c. search needs)
+    (λ c. search needs)
+    (λ c. search put-done))

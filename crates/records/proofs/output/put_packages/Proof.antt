@@ -1,4 +1,4 @@
-use Rattle.records.proofs.output.Automatic.{entries-room, package-room, packages-place, packages-bytes}
+use Rattle.records.proofs.output.Automatic.{package-room, packages-put}
 use borrow.Author.Needs.{needs}
 use Rattle.records.proofs.output.put_packages.Statement.{statement}
 use Rattle.records.proofs.output.put_packages.Tie as tie
@@ -7,8 +7,7 @@ pub put-packages-spec : {M : Type 1} → statement M
 put-packages-spec =
     tie.close
     (tie.spec
-    (λ c κs. (search needs, (search entries-room, search needs)))
+    (λ c κs. search needs)
+    (λ c κs. search package-room)
     (λ c. search needs)
-    (λ c κs. (search needs, (search package-room, (search needs, search needs))))
-    (λ c. search needs)
-    (λ c. (search packages-place, search packages-bytes)))
+    (λ c. search packages-put))

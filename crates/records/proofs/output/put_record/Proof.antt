@@ -1,5 +1,5 @@
+use Rattle.records.proofs.output.Records.{record-room, record-put}
 use borrow.Author.Needs.{needs}
-use Rattle.records.proofs.output.Records.{put-record-laws}
 use Rattle.records.proofs.output.put_record.Statement.{statement}
 use Rattle.records.proofs.output.put_record.Tie as tie
 
@@ -15,8 +15,6 @@ put-record-spec =
     (λ c. search needs)
     (λ c. search needs)
     (λ c. search needs)
-    (λ c κs. search needs)
-    (λ c κs. search needs)
-    (λ c κs. search needs)
+    (λ c κs. search record-room)
     (λ c. search needs)
-    (λ c. search (put-record-laws, needs)))
+    (λ c. search record-put))

@@ -1,6 +1,6 @@
 use Prim.Native.Nat.{_-_}
 use borrow.Author.Needs.{needs}
-use Rattle.records.proofs.output.Sizes.{SizeAt, size-laws}
+use Rattle.records.proofs.output.Sizes.{SizeAt, size-start, size-mul, size-term, size-sum, size-more, size-done, size-low}
 use Rattle.records.proofs.output.size.Statement.{statement}
 use Rattle.records.proofs.output.size.Tie as tie
 
@@ -16,14 +16,14 @@ size-spec =
     (tie.spec
     Inv-loop
     μ-loop
-    (λ c. search (size-laws, needs))
-    (λ c. search (size-laws, needs))
-    (λ c. search (size-laws, needs))
-    (λ c κs. search (size-laws, needs))
-    (λ c. search (size-laws, needs))
-    (λ c. search (size-laws, needs))
-    (λ c. search (size-laws, needs))
-    (λ c. search (size-laws, needs))
-    (λ c. search (size-laws, needs))
-    (λ c. search (size-laws, needs))
-    (λ c. search (size-laws, needs)))
+    (λ c. search size-start)
+    (λ c. search needs)
+    (λ c. search needs)
+    (λ c κs. search needs)
+    (λ c. search size-mul)
+    (λ c. search size-term)
+    (λ c. search size-sum)
+    (λ c. search needs)
+    (λ c. search needs)
+    (λ c. search size-more)
+    (λ c. (search size-done, search size-low)))

@@ -1,0 +1,153 @@
+-- Positions: where a name stands in the set, and what one store and one turn of code over an array of positions do.
+use mathlib.Core.Path.{_≡_, refl, sym, ap, _∙_, subst}
+use Prim.Native.Nat.{ℕ, zero, suc, _+_, _≤_, _<_}
+use native.Mathlib.Omega.{arith}
+use native.Mathlib.Nat.{add-zero}
+use mathlib.Core.Bool.{Bool, true, false, not, _||_, cond}
+use mathlib.Core.Option.{Option, none, some}
+use mathlib.Core.List.{List, [], _∷_, _++_, map, List·Memᴰ·head, List·Memᴰ·tail, Memᴰ·cast}
+use lib.ListN.{length, getD, take, drop, set}
+use lib.Seq.{slice, slice-cons, take-suc, take-suc-set, take-set-le, drop-append-le, length-take-le}
+use lib.Dec.{eqb}
+use borrow.Author.Tests.{eq-eqb, eqb-true}
+use Rattle.records.specs.declared.finder.Found.the-variants.{At, Nothing}
+use Rattle.records.proofs.bytes.Laws.{same-eq, same-refl}
+use Rattle.records.specs.Bytes.{sameBytes}
+use Rattle.records.specs.Descriptor.{Descriptor}
+use Rattle.records.specs.Finder.{findName, pickFound}
+use Rattle.records.specs.Name.{memName}
+use Rattle.records.specs.Set.{distinct}
+use Rattle.resolution.specs.Lists.{Mem, Name, any, first}
+use Rattle.resolution.specs.Positions.{moduleAt, shortAt}
+use Rattle.resolution.specs.Resolution.{Item, find, hasModule, indexOf, names}
+use Rattle.resolution.proofs.Find.{find-mem}
+use Rattle.resolution.proofs.Lists.{and-l, and-r, by, map-append, map-in, memName-in, not-t, true≠false, →same}
+
+-- ---- the position of a name
+
+pub index-in : (n : Name) (s : List Descriptor) → hasModule s n ≡ true → indexOf n s < length s
+unfolding hasModule any indexOf
+index-in n [] h = true≠false h refl
+index-in n (m ∷ ms) h = turned (sameBytes (m .name) n) (index-in n ms) h
+  where
+    turned : (b : Bool) → (hasModule ms n ≡ true → indexOf n ms < length ms) → (b || hasModule ms n) ≡ true
+        → cond b 0 (suc (indexOf n ms)) < suc (length ms)
+    turned true below k = omega arith
+    turned false below k = omega (arith, below k)
+
+pub find-at : (n : Name) (s : List Descriptor) → hasModule s n ≡ true → find n s ≡ some (moduleAt s (indexOf n s))
+unfolding hasModule any find first indexOf
+find-at n [] h = true≠false h refl
+find-at n (m ∷ ms) h = turned (sameBytes (m .name) n) (find-at n ms) h
+  where
+    turned : (b : Bool) → (hasModule ms n ≡ true → find n ms ≡ some (moduleAt ms (indexOf n ms))) → (b || hasModule ms n) ≡ true
+        → cond b (some m) (find n ms) ≡ some (moduleAt (m ∷ ms) (cond b 0 (suc (indexOf n ms))))
+    turned true below k = refl
+    turned false below k = below k
+
+pub find-none : (n : Name) (s : List Descriptor) → hasModule s n ≡ false → find n s ≡ none
+unfolding hasModule any find first
+find-none n [] h = refl
+find-none n (m ∷ ms) h = turned (sameBytes (m .name) n) (find-none n ms) h
+  where
+    turned : (b : Bool) → (hasModule ms n ≡ false → find n ms ≡ none) → (b || hasModule ms n) ≡ false → cond b (some m) (find n ms) ≡ none
+    turned true below k = true≠false refl k
+    turned false below k = below k
+
+-- lookup among the names, as the finder does it
+pub find-name : (n : Name) (s : List Descriptor) (k : ℕ) → findName (names s) n k ≡ pickFound (hasModule s n) (At (k + indexOf n s)) Nothing
+unfolding findName hasModule any indexOf
+find-name n [] k = refl
+find-name n (m ∷ ms) k = turned (sameBytes (m .name) n) (find-name n ms (suc k))
+  where
+    turned : (b : Bool) → findName (names ms) n (suc k) ≡ pickFound (hasModule ms n) (At (suc k + indexOf n ms)) Nothing
+        → pickFound b (At k) (findName (names ms) n (suc k)) ≡ pickFound (b || hasModule ms n) (At (k + cond b 0 (suc (indexOf n ms)))) Nothing
+    turned true below = ap At (sym (add-zero k))
+    turned false below = let e : suc k + indexOf n ms ≡ k + suc (indexOf n ms) = omega arith in rw (below, e)
+
+-- what the finder's answer says of a name
+pub record Located (n : Name) (s : List Descriptor) (i : ℕ) : Type 0 where
+  pub observable : hasModule s n ≡ true
+  pub within : i < length s
+  pub is : find n s ≡ some (moduleAt s i)
+  pub index : indexOf n s ≡ i
+
+pub located : (n : Name) (s : List Descriptor) (i : ℕ) → findName (names s) n 0 ≡ At i → Located n s i
+located n s i e = turned (hasModule s n) refl (sym (find-name n s 0) ∙ e)
+  where
+    turned : (b : Bool) → hasModule s n ≡ b → pickFound b (At (0 + indexOf n s)) Nothing ≡ At i → Located n s i
+    turned true h k =
+        let y : 0 + indexOf n s ≡ i = cc in
+        let z : indexOf n s ≡ i = omega arith in
+        record { observable = h; within = subst (λ (x : ℕ). x < length s) z (index-in n s h); is = subst (λ (x : ℕ). find n s ≡ some (moduleAt s x)) z (find-at n s h); index = z }
+    turned false h k = absurd (let z : _≡_ {A = ℕ} 0 1 = cc in omega arith)
+
+pub not-located : (n : Name) (s : List Descriptor) → findName (names s) n 0 ≡ Nothing → (hasModule s n ≡ false) × (find n s ≡ none)
+not-located n s e = turned (hasModule s n) refl (sym (find-name n s 0) ∙ e)
+  where
+    turned : (b : Bool) → hasModule s n ≡ b → pickFound b (At (0 + indexOf n s)) Nothing ≡ Nothing → (hasModule s n ≡ false) × (find n s ≡ none)
+    turned true h k = absurd (let z : _≡_ {A = ℕ} 0 1 = cc in omega arith)
+    turned false h k = (h, find-none n s h)
+
+at-mem : (s : List Descriptor) (i : ℕ) → i < length s → Mem (moduleAt s i) s
+at-mem [] i h = absurd (omega arith)
+at-mem (m ∷ ms) zero h = List·Memᴰ·head refl
+at-mem (m ∷ ms) (suc i) h = List·Memᴰ·tail (at-mem ms i (omega arith))
+
+-- with no name twice, the name at a position is at that position
+pub index-at : (s : List Descriptor) (i : ℕ) → distinct (names s) ≡ true → i < length s → indexOf (moduleAt s i .name) s ≡ i
+unfolding indexOf distinct
+index-at [] i d h = absurd (omega arith)
+index-at (m ∷ ms) zero d h = rw (same-refl (m .name))
+index-at (m ∷ ms) (suc i) d h = rw (other, index-at ms i (and-r (not (memName (m .name) (names ms))) (distinct (names ms)) d) (omega arith))
+  where
+    other : sameBytes (m .name) (moduleAt ms i .name) ≡ false
+    other = by (sameBytes (m .name) (moduleAt ms i .name))
+        (λ u. true≠false (memName-in (Memᴰ·cast (same-eq (m .name) (moduleAt ms i .name) u) (map-in (λ (z : Descriptor). z .name) (at-mem ms i (omega arith)))))
+        (not-t (memName (m .name) (names ms)) (and-l (not (memName (m .name) (names ms))) (distinct (names ms)) d))) (λ u. u)
+
+-- a name is among the modules at some positions just if its position is among the positions
+pub has-at : (s : List Descriptor) (n : Name) → distinct (names s) ≡ true → hasModule s n ≡ true → (ps : List ℕ) → ((p : ℕ) → Mem p ps → p < length s)
+    → hasModule (map (moduleAt s) ps) n ≡ any (eqb (indexOf n s)) ps
+unfolding hasModule any
+has-at s n d l [] b = refl
+has-at s n d l (p ∷ ps) b = turned (sameBytes (moduleAt s p .name) n) (eqb (indexOf n s) p) refl refl (has-at s n d l ps (λ x h. b x (List·Memᴰ·tail h)))
+  where
+    here : indexOf (moduleAt s p .name) s ≡ p
+    here = index-at s p d (b p (List·Memᴰ·head refl))
+
+    turned : (x y : Bool) → sameBytes (moduleAt s p .name) n ≡ x → eqb (indexOf n s) p ≡ y
+        → hasModule (map (moduleAt s) ps) n ≡ any (eqb (indexOf n s)) ps
+        → (x || hasModule (map (moduleAt s) ps) n) ≡ (y || any (eqb (indexOf n s)) ps)
+    turned true true e f below = refl
+    turned false false e f below = below
+    turned true false e f below =
+        true≠false (eq-eqb (indexOf n s) p (subst (λ (z : Name). indexOf z s ≡ p) (same-eq (moduleAt s p .name) n e) here)) f
+    turned false true e f below =
+        let z : indexOf n s ≡ p = eqb-true (indexOf n s) p f in
+        let g : find n s ≡ some (moduleAt s p) = subst (λ (x : ℕ). find n s ≡ some (moduleAt s x)) z (find-at n s l) in
+        true≠false (→same (sym (find-mem n s (moduleAt s p) g .1))) e
+
+-- ---- the array of positions
+
+-- the next to be resolved
+pub next-at : (s : List Descriptor) (order : List ℕ) (head tail : ℕ) → head < tail → tail ≤ length order
+    → map (moduleAt s) (slice head tail order) ≡ moduleAt s (getD order head 0) ∷ map (moduleAt s) (slice (suc head) tail order)
+next-at s order head tail h k = ap (map (moduleAt s)) (slice-cons head tail order 0 h k)
+
+-- and resolved
+pub resolved-at : (s : List Descriptor) (order : List ℕ) (head : ℕ) → head < length order
+    → map (moduleAt s) (take (suc head) order) ≡ map (moduleAt s) (take head order) ++ (moduleAt s (getD order head 0) ∷ [])
+resolved-at s order head h = ap (map (moduleAt s)) (take-suc order head 0 h) ∙ map-append (moduleAt s) (take head order) (getD order head 0 ∷ [])
+
+-- one more that waits
+pub push-at : (s : List Descriptor) (order : List ℕ) (head tail i : ℕ) (halt : Option Item) → head ≤ tail → tail < length order
+    → shortAt s (set order tail i) head (suc tail) halt
+    ≡ record { resolved = map (moduleAt s) (take head order); line = record { todo = map (moduleAt s) (slice head tail order) ++ (moduleAt s i ∷ []); halt = halt } }
+unfolding shortAt
+push-at s order head tail i halt h k =
+    let low : take head (set order tail i) ≡ take head order = take-set-le head order tail i h in
+    let n : length (take tail order) ≡ tail = length-take-le tail order (omega arith) in
+    let high : slice head (suc tail) (set order tail i) ≡ slice head tail order ++ (i ∷ [])
+    = ap (drop head) (take-suc-set order tail i k) ∙ drop-append-le head (take tail order) (i ∷ []) (omega arith) in
+    rw (low, high, map-append (moduleAt s) (slice head tail order) (i ∷ []))

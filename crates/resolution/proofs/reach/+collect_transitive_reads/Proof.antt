@@ -1,0 +1,58 @@
+-- The measure is the number of positions that are not marked.
+use Prim.Native.Nat.{ℕ, _-_, _<_}
+use borrow.Author.Needs.{needs}
+use borrow.Fn.Kinds.{In}
+use borrow.Fn.PlainCycle.{Measures, is, falls, and}
+use Rattle.resolution.specs.Graph.{unmarked}
+use Rattle.resolution.proofs.reach.Laws.{CollectAt, collect-laws}
+use Rattle.resolution.proofs.reach.collect_transitive_reads.Reads as own
+use Rattle.resolution.proofs.reach.collect_transitive_reads.Kinds as kinds
+use Rattle.resolution.proofs.reach.+collect_transitive_reads.Lts-collect_transitive_reads as lts
+use Rattle.resolution.proofs.reach.edge_at.Reads as edge-at-reads
+use Rattle.resolution.proofs.row.has.Reads as has-reads
+use Rattle.resolution.proofs.row.with.Reads as with-reads
+use Rattle.resolution.proofs.reach.+collect_transitive_reads.{statement}
+use Rattle.resolution.proofs.reach.+collect_transitive_reads.Tie.{close}
+
+abbrev μ : Measures 1 kinds.ps ℕ
+μ κs a = unmarked (a .1 .1 .0 .words)
+
+abbrev at : ℕ → In 1 kinds.ps
+at t = and 1 kinds.ps (is 1 kinds.ps μ t) own.Pre
+
+abbrev below : ℕ → In 1 kinds.ps
+below t = and 1 kinds.ps (falls 1 kinds.ps _<_ μ t) own.Pre
+
+abbrev claims : ℕ → lts.Claims
+claims t = (
+  edge-at-reads.Asked,
+  edge-at-reads.Learnt,
+  has-reads.Asked,
+  has-reads.Learnt,
+  with-reads.Asked,
+  with-reads.Learnt,
+  below t,
+  own.Post,
+)
+
+abbrev Inv-loop : lts.InvT-loop
+Inv-loop g m out₀ k₀ out k = CollectAt g m (out₀ .words) (out .words) k
+
+abbrev μ-loop : lts.MeasureT-loop
+μ-loop g m out₀ k₀ out k = 256 - k
+
+pub +collect-transitive-reads-spec : {M : Type 1} → statement M
++collect-transitive-reads-spec = close μ λ t. lts.spec (claims t) (at t) own.Post Inv-loop μ-loop
+    (λ c. search (collect-laws, needs))
+    (λ c. search (collect-laws, needs))
+    (λ c κs. search (collect-laws, needs))
+    (λ c κs. search (collect-laws, needs))
+    (λ c κs. search (collect-laws, needs))
+    (λ c κs. search (collect-laws, needs))
+    (λ c. search (collect-laws, needs))
+    (λ c. search (collect-laws, needs))
+    (λ c. search (collect-laws, needs))
+    (λ c. search (collect-laws, needs))
+    (λ c. search (collect-laws, needs))
+    (λ c. search (collect-laws, needs))
+    (λ c. search (collect-laws, needs))

@@ -1,0 +1,137 @@
+-- The edges of a graph: none leads past 255, one is added by a bit of a word.
+use mathlib.Core.Path.{_≡_, refl, sym, ap, ap₂, _∙_}
+use mathlib.Core.Bool.{Bool, true, false, _||_, _&&_, and-false, or-false}
+use mathlib.Core.List.{List, [], _∷_}
+use Prim.Native.Nat.{ℕ, zero, suc, _+_, _*_, _/_, _%_, _≤_, _<_}
+use native.Mathlib.Omega.{arith}
+use lib.Dec.{eqb, ltb}
+use lib.ListN.{length, getD, set, replicate, List·getD-eq-default}
+use native.Mathlib.Nat.{add-zero}
+use lib.Seq.{getD-set-same, getD-set-other}
+use borrow.Author.Tests.{eq-eqb, ne-eqb, eqb-true, eqb-false, ltb-true, ltb-false, lt-ltb, le-ltb}
+use Rattle.resolution.specs.Row.{bit, holds}
+use Rattle.resolution.specs.Graph.{edge, AddedEdge}
+use Rattle.resolution.proofs.row.Bits.{bit-zero}
+use Rattle.resolution.proofs.row.Laws.{eqb-parts, holds-out, zero-at}
+
+-- the edge's bit
+pub edge-is : (g : List ℕ) (i j : ℕ) → j < 256 → edge g i j ≡ bit (getD g (i * 4 + j / 64) 0) (j % 64)
+unfolding edge
+edge-is g i j h = ap (λ (t : Bool). t && bit (getD g (i * 4 + j / 64) 0) (j % 64)) (lt-ltb j 256 h)
+
+pub edge-past : (g : List ℕ) (i j : ℕ) → 256 ≤ j → edge g i j ≡ false
+unfolding edge
+edge-past g i j h = ap (λ (t : Bool). t && bit (getD g (i * 4 + j / 64) 0) (j % 64)) (le-ltb j 256 h)
+
+pub edge-below : (g : List ℕ) (i j : ℕ) → edge g i j ≡ true → j < 256
+edge-below g i j e = go (ltb j 256) refl
+  where
+    go : (t : Bool) → ltb j 256 ≡ t → j < 256
+    go true h = ltb-true j 256 h
+    go false h =
+        let p : edge g i j ≡ false = edge-past g i j (ltb-false j 256 h) in
+        let z : _≡_ {A = ℕ} 0 1 = cc in absurd (omega arith)
+
+-- an edge is added, where a word v that has bit j % 64 more is stored in the place of its word
+pub edge-added : (g : List ℕ) (i j v : ℕ) → j < 256 → i * 4 + j / 64 < length g
+    → ((b : ℕ) → bit v b ≡ bit (getD g (i * 4 + j / 64) 0) b || eqb b (j % 64))
+    → (a b : ℕ) → edge (set g (i * 4 + j / 64) v) a b ≡ edge g a b || (eqb a i && eqb b j)
+edge-added g i j v hj l h a b = outer (ltb b 256) refl
+  where
+    inner : b < 256 → (t : Bool) → eqb (a * 4 + b / 64) (i * 4 + j / 64) ≡ t
+        → bit (getD (set g (i * 4 + j / 64) v) (a * 4 + b / 64) 0) (b % 64) ≡ bit (getD g (a * 4 + b / 64) 0) (b % 64) || (eqb a i && eqb b j)
+    inner hb true e =
+        let q : a * 4 + b / 64 ≡ i * 4 + j / 64 = eqb-true (a * 4 + b / 64) (i * 4 + j / 64) e in
+        let qa : a ≡ i = omega arith in
+        let qb : b / 64 ≡ j / 64 = omega arith in
+        ap (λ (x : ℕ). bit x (b % 64)) (ap (λ (n : ℕ). getD (set g (i * 4 + j / 64) v) n 0) q ∙ getD-set-same g (i * 4 + j / 64) v 0 l)
+        ∙ h (b % 64)
+        ∙ ap₂ (λ (n : ℕ) (t : Bool). bit (getD g n 0) (b % 64) || t) (sym q)
+        (eqb-parts b j qb ∙ ap (λ (t : Bool). t && eqb b j) (sym (eq-eqb a i qa)))
+    inner hb false e =
+        ap (λ (x : ℕ). bit x (b % 64)) (getD-set-other g (i * 4 + j / 64) (a * 4 + b / 64) v 0 (eqb-false (a * 4 + b / 64) (i * 4 + j / 64) e))
+        ∙ sym (or-false (bit (getD g (a * 4 + b / 64) 0) (b % 64)))
+        ∙ ap (λ (t : Bool). bit (getD g (a * 4 + b / 64) 0) (b % 64) || t) (sym (other (eqb a i) refl (eqb b j) refl))
+      where
+        other : (s : Bool) → eqb a i ≡ s → (t : Bool) → eqb b j ≡ t → (s && t) ≡ false
+        other false p t q = refl
+        other true p false q = refl
+        other true p true q =
+            absurd (eqb-false (a * 4 + b / 64) (i * 4 + j / 64) e
+            (ap₂ (λ (x y : ℕ). x * 4 + y / 64) (eqb-true a i p) (eqb-true b j q)))
+
+    outer : (t : Bool) → ltb b 256 ≡ t → edge (set g (i * 4 + j / 64) v) a b ≡ edge g a b || (eqb a i && eqb b j)
+    outer true p =
+        let hb : b < 256 = ltb-true b 256 p in
+        edge-is (set g (i * 4 + j / 64) v) a b hb ∙ inner hb (eqb (a * 4 + b / 64) (i * 4 + j / 64)) refl
+        ∙ ap (λ (t : Bool). t || (eqb a i && eqb b j)) (sym (edge-is g a b hb))
+    outer false p =
+        let hb : 256 ≤ b = ltb-false b 256 p in
+        edge-past (set g (i * 4 + j / 64) v) a b hb
+        ∙ ap₂ (λ (s t : Bool). s || t) (sym (edge-past g a b hb)) (sym (ap (λ (t : Bool). eqb a i && t) (ne-eqb b j (λ q. omega arith)) ∙ and-false (eqb a i)))
+
+-- no row from 256 on
+pub edge-out : (g : List ℕ) (i j : ℕ) → length g ≡ 1024 → 256 ≤ i → edge g i j ≡ false
+unfolding edge
+edge-out g i j e h =
+    ap (λ (w : ℕ). ltb j 256 && bit w (j % 64)) (List·getD-eq-default g 0 {n = i * 4 + j / 64} (omega arith))
+    ∙ ap (λ (t : Bool). ltb j 256 && t) (bit-zero (j % 64)) ∙ and-false (ltb j 256)
+
+-- no edge in words that are all 0
+pub edge-zeros : (n i j : ℕ) → edge (replicate n 0) i j ≡ false
+unfolding edge
+edge-zeros n i j =
+    ap (λ (w : ℕ). ltb j 256 && bit w (j % 64)) (zero-at n (i * 4 + j / 64))
+    ∙ ap (λ (t : Bool). ltb j 256 && t) (bit-zero (j % 64)) ∙ and-false (ltb j 256)
+
+-- the four words of row i
+abbrev pub rowOf : List ℕ → ℕ → List ℕ
+rowOf g i = getD g (i * 4) 0 ∷ getD g (i * 4 + 1) 0 ∷ getD g (i * 4 + 2) 0 ∷ getD g (i * 4 + 3) 0 ∷ []
+
+row-at : (g : List ℕ) (i k : ℕ) → k < 4 → getD (rowOf g i) k 0 ≡ getD g (i * 4 + k) 0
+row-at g i zero h = ap (λ (n : ℕ). getD g n 0) (sym (add-zero (i * 4)))
+row-at g i (suc zero) h = refl
+row-at g i (suc (suc zero)) h = refl
+row-at g i (suc (suc (suc zero))) h = refl
+row-at g i (suc (suc (suc (suc k)))) h = absurd (omega arith)
+
+pub row-edges : (g : List ℕ) (i j : ℕ) → holds (rowOf g i) j ≡ edge g i j
+unfolding holds
+row-edges g i j = go (ltb j 256) refl
+  where
+    go : (t : Bool) → ltb j 256 ≡ t → bit (getD (rowOf g i) (j / 64) 0) (j % 64) ≡ edge g i j
+    go true h =
+        let l : j < 256 = ltb-true j 256 h in
+        ap (λ (w : ℕ). bit w (j % 64)) (row-at g i (j / 64) (omega arith)) ∙ sym (edge-is g i j l)
+    go false h =
+        let l : 256 ≤ j = ltb-false j 256 h in
+        holds-out (rowOf g i) j refl l ∙ sym (edge-past g i j l)
+
+-- ---- one edge is asked for
+pub edge-in : (g : List ℕ) (i j : ℕ) (r : Bool) → j < 256 → r ≡ bit (getD g (i * 4 + j / 64) 0) (j % 64) → r ≡ edge g i j
+edge-in g i j r h e = e ∙ sym (edge-is g i j h)
+
+pub no-target : (g : List ℕ) (i j : ℕ) → 256 ≤ j → false ≡ edge g i j
+no-target g i j h = sym (edge-past g i j h)
+
+pub no-source : (g : List ℕ) (i j : ℕ) → length g ≡ 1024 → 256 ≤ i → false ≡ edge g i j
+no-source g i j n h = sym (edge-out g i j n h)
+
+pub ruleset edge-laws = (edge-in, no-target, no-source)
+
+-- ---- one edge is added
+pub added-in : (g : List ℕ) (i j v : ℕ) → length g ≡ 1024 → i < 256 → j < 256
+    → ((b : ℕ) → bit v b ≡ bit (getD g (i * 4 + j / 64) 0) b || eqb b (j % 64)) → AddedEdge g i j (set g (i * 4 + j / 64) v)
+added-in g i j v n hi hj h = record {
+  edges = λ _ _. edge-added g i j v hj (omega arith) h;
+  past-source = λ l. absurd (omega arith);
+  past-target = λ l. absurd (omega arith);
+}
+
+pub added-source : (g : List ℕ) (i j : ℕ) → 256 ≤ i → AddedEdge g i j g
+added-source g i j h = record { edges = λ l _. absurd (omega arith); past-source = λ _. refl; past-target = λ _. refl }
+
+pub added-target : (g : List ℕ) (i j : ℕ) → 256 ≤ j → AddedEdge g i j g
+added-target g i j h = record { edges = λ _ l. absurd (omega arith); past-source = λ _. refl; past-target = λ _. refl }
+
+pub ruleset added-laws = (added-in, added-source, added-target)

@@ -1,0 +1,147 @@
+-- The positions that a row holds, after a change of a word, of every word, and their count.
+use mathlib.Core.Path.{_≡_, refl, sym, ap, ap₂, _∙_}
+use mathlib.Core.Bool.{Bool, true, false, _||_, or-false}
+use mathlib.Core.List.{List, [], _∷_}
+use Prim.Native.Nat.{ℕ, zero, suc, _+_, _*_, _/_, _%_, _^_, _≤_, _<_}
+use native.Mathlib.Omega.{arith}
+use lib.Dec.{eqb, ltb}
+use lib.ListN.{length, getD, set, replicate, List·getD-eq-default}
+use lib.Seq.{getD-set-same, getD-set-other}
+use lib.Count.{ones, ones-le}
+use mir.Syntax.{w64}
+use mir.Val.{Fits}
+use lib.Bits.{bitOr}
+use borrow.Author.Tests.{eq-eqb, ne-eqb, eqb-true, eqb-false, ltb-true, ltb-false}
+use Rattle.resolution.specs.Row.{bit, holds, countBelow, size, Empty, United, Added}
+use Rattle.resolution.proofs.row.Bits.{bit-zero, bit-or}
+use Rattle.resolution.proofs.row.Counts.{count-zero, count-add, count-same, count-none, none-of-count, ones-bits}
+
+pub holds-out : (ws : List ℕ) (k : ℕ) → length ws ≡ 4 → 256 ≤ k → holds ws k ≡ false
+unfolding holds
+holds-out ws k e h = ap (λ (w : ℕ). bit w (k % 64)) (List·getD-eq-default ws 0 {n = k / 64} (omega arith)) ∙ bit-zero (k % 64)
+
+-- a position in two parts
+pub eqb-parts : (k j : ℕ) → k / 64 ≡ j / 64 → eqb (k % 64) (j % 64) ≡ eqb k j
+eqb-parts k j e = go (eqb (k % 64) (j % 64)) refl
+  where
+    go : (t : Bool) → eqb (k % 64) (j % 64) ≡ t → t ≡ eqb k j
+    go true h = sym (eq-eqb k j (omega (arith, eqb-true (k % 64) (j % 64) h)))
+    go false h = sym (ne-eqb k j (λ q. eqb-false (k % 64) (j % 64) h (ap (λ (x : ℕ). x % 64) q)))
+
+-- position j is added, where a word v that has bit j % 64 more is stored in the place of its word
+pub holds-added : (ws : List ℕ) (j v : ℕ) → j / 64 < length ws → ((b : ℕ) → bit v b ≡ bit (getD ws (j / 64) 0) b || eqb b (j % 64))
+    → (k : ℕ) → holds (set ws (j / 64) v) k ≡ holds ws k || eqb k j
+unfolding holds
+holds-added ws j v l h k = go (eqb (k / 64) (j / 64)) refl
+  where
+    go : (t : Bool) → eqb (k / 64) (j / 64) ≡ t → bit (getD (set ws (j / 64) v) (k / 64) 0) (k % 64) ≡ bit (getD ws (k / 64) 0) (k % 64) || eqb k j
+    go true e =
+        let q : k / 64 ≡ j / 64 = eqb-true (k / 64) (j / 64) e in
+        ap (λ (x : ℕ). bit x (k % 64)) (ap (λ (i : ℕ). getD (set ws (j / 64) v) i 0) q ∙ getD-set-same ws (j / 64) v 0 l)
+        ∙ h (k % 64) ∙ ap₂ (λ (i : ℕ) (t : Bool). bit (getD ws i 0) (k % 64) || t) (sym q) (eqb-parts k j q)
+    go false e =
+        ap (λ (x : ℕ). bit x (k % 64)) (getD-set-other ws (j / 64) (k / 64) v 0 (eqb-false (k / 64) (j / 64) e))
+        ∙ sym (or-false (bit (getD ws (k / 64) 0) (k % 64)))
+        ∙ ap (λ (t : Bool). bit (getD ws (k / 64) 0) (k % 64) || t) (sym (ne-eqb k j (λ q. eqb-false (k / 64) (j / 64) e (ap (λ (x : ℕ). x / 64) q))))
+
+-- the 64 positions of word i
+word : (ws : List ℕ) (i : ℕ) → getD ws i 0 < 2 ^ 64 → countBelow (λ k. holds ws (64 * i + k)) 64 ≡ ones (getD ws i 0)
+unfolding holds
+word ws i h =
+    count-same (λ k. holds ws (64 * i + k)) (bit (getD ws i 0)) 64
+    (λ k l. ap₂ (λ (x y : ℕ). bit (getD ws x 0) y) (omega arith) (omega arith))
+    ∙ sym (ones-bits 64 (getD ws i 0) h)
+
+-- the ones of the four words are the positions that are held
+pub size-ones : (ws : List ℕ) → ((i : ℕ) → getD ws i 0 < 2 ^ 64)
+    → size ws ≡ ones (getD ws 0 0) + ones (getD ws 1 0) + ones (getD ws 2 0) + ones (getD ws 3 0)
+unfolding size
+size-ones ws h =
+    omega (
+      arith,
+      count-add (holds ws) 192 64,
+      count-add (holds ws) 128 64,
+      count-add (holds ws) 64 64,
+      count-add (holds ws) 0 64,
+      count-zero (holds ws),
+      word ws 0 (h 0),
+      word ws 1 (h 1),
+      word ws 2 (h 2),
+      word ws 3 (h 3),
+    )
+
+-- ---- every word
+pub zero-at : (n i : ℕ) → _≡_ {A = ℕ} (getD (replicate n 0) i 0) 0
+zero-at zero i = refl
+zero-at (suc n) zero = refl
+zero-at (suc n) (suc i) = zero-at n i
+
+pub empty-zeros : (n : ℕ) → Empty (replicate n 0)
+unfolding holds
+empty-zeros n = record { none = λ k. ap (λ (w : ℕ). bit w (k % 64)) (zero-at n (k / 64)) ∙ bit-zero (k % 64) }
+
+-- the words of two rows, one by one
+abbrev pub ors : List ℕ → List ℕ → List ℕ
+ors a b =
+    bitOr (getD a 0 0) (getD b 0 0) ∷ bitOr (getD a 1 0) (getD b 1 0) ∷ bitOr (getD a 2 0) (getD b 2 0) ∷ bitOr (getD a 3 0) (getD b 3 0) ∷ []
+
+ors-at : (a b : List ℕ) → length a ≡ 4 → length b ≡ 4 → (i : ℕ) → getD (ors a b) i 0 ≡ bitOr (getD a i 0) (getD b i 0)
+ors-at a b p q zero = refl
+ors-at a b p q (suc zero) = refl
+ors-at a b p q (suc (suc zero)) = refl
+ors-at a b p q (suc (suc (suc zero))) = refl
+ors-at a b p q (suc (suc (suc (suc i)))) =
+    sym (ap₂ bitOr (List·getD-eq-default a 0 {n = suc (suc (suc (suc i)))} (omega arith)) (List·getD-eq-default b 0 {n = suc (suc (suc (suc i)))} (omega arith)))
+
+pub union-is : (a b : List ℕ) → length a ≡ 4 → length b ≡ 4 → United a b (ors a b)
+unfolding holds
+union-is a b p q = record {
+  either = λ k. ap (λ (w : ℕ). bit w (k % 64)) (ors-at a b p q (k / 64)) ∙ bit-or (getD a (k / 64) 0) (getD b (k / 64) 0) (k % 64);
+}
+
+-- ---- an empty row: `size` is 0 where nothing is held, and nowhere else
+pub size-none : (ws : List ℕ) → Empty ws → size ws ≡ 0
+unfolding size
+size-none ws h = count-none (holds ws) 256 (λ k l. h .none k)
+
+pub none-of-size : (ws : List ℕ) → length ws ≡ 4 → size ws ≡ 0 → Empty ws
+unfolding size
+none-of-size ws n e = record { none = λ k. go k (ltb k 256) refl }
+  where
+    go : (k : ℕ) (t : Bool) → ltb k 256 ≡ t → holds ws k ≡ false
+    go k true h = none-of-count (holds ws) 256 e k (ltb-true k 256 h)
+    go k false h = holds-out ws k n (ltb-false k 256 h)
+
+-- ---- what each function returns
+pub has-in : (ws : List ℕ) (k : ℕ) (r : Bool) → r ≡ bit (getD ws (k / 64) 0) (k % 64) → r ≡ holds ws k
+unfolding holds
+has-in ws k r e = e
+
+pub has-out : (ws : List ℕ) (k : ℕ) → length ws ≡ 4 → 256 ≤ k → false ≡ holds ws k
+has-out ws k n h = sym (holds-out ws k n h)
+
+pub with-in : (ws : List ℕ) (k v : ℕ) → length ws ≡ 4 → k < 256 → ((b : ℕ) → bit v b ≡ bit (getD ws (k / 64) 0) b || eqb b (k % 64))
+    → Added ws k (set ws (k / 64) v)
+with-in ws k v n l h = record { below = λ _. holds-added ws k v (omega arith) h; above = λ g. absurd (omega arith) }
+
+pub with-out : (ws : List ℕ) (k : ℕ) → 256 ≤ k → Added ws k ws
+with-out ws k l = record { below = λ g. absurd (omega arith); above = λ _. refl }
+
+pub count-is : (ws : List ℕ) (a b c d : ℕ) → ((i : ℕ) → Fits w64 (getD ws i 0))
+    → a ≡ ones (getD ws 0 0) → b ≡ ones (getD ws 1 0) → c ≡ ones (getD ws 2 0) → d ≡ ones (getD ws 3 0) → a + b + c + d ≡ size ws
+count-is ws a b c d f p q r s = omega (arith, size-ones ws (λ i. f i .fits))
+
+pub ones-fits : (w : ℕ) → Fits w64 w → Fits w64 (ones w)
+ones-fits w f = record { fits = omega (arith, ones-le 64 w (f .fits)) }
+
+pub ones-64 : (w : ℕ) → Fits w64 w → ones w ≤ 64
+ones-64 w f = ones-le 64 w (f .fits)
+
+pub is-empty-is : (n m : ℕ) → n ≡ m → eqb n 0 ≡ eqb m 0
+is-empty-is n m e = ap (λ (x : ℕ). eqb x 0) e
+
+pub ruleset has-laws = (has-in, has-out)
+
+pub ruleset ones-laws = (ones-fits, ones-64)
+
+pub ruleset with-laws = (with-in, with-out)

@@ -1,0 +1,11 @@
+use Rattle.resolution.proofs.row.Bits.{bit-with}
+use borrow.Author.Needs.{needs}
+use Rattle.resolution.proofs.row.word_with.Statement.{statement}
+use Rattle.resolution.proofs.row.word_with.Tie as tie
+
+pub word-with-spec : {M : Type 1} → statement M
+word-with-spec =
+    tie.close
+    (tie.spec
+    (λ c. search needs)
+    (λ c. search (bit-with, needs)))

@@ -1,0 +1,42 @@
+-- A set of positions below 256, as four words of 64 bits, lowest bit first.
+use mathlib.Core.Path.{_≡_}
+use mathlib.Core.Bool.{Bool, true, false, _||_}
+use mathlib.Core.List.{List}
+use Prim.Native.Nat.{ℕ, zero, suc, _+_, _/_, _%_, _^_, _≤_, _<_}
+use lib.Dec.{eqb}
+use lib.ListN.{getD}
+
+-- bit k of w is set
+unfoldable pub bit : ℕ → ℕ → Bool
+bit w k = eqb (w / 2 ^ k % 2) 1
+
+-- position k is held: bit k % 64 of word k / 64
+unfoldable pub holds : List ℕ → ℕ → Bool
+holds ws k = bit (getD ws (k / 64) 0) (k % 64)
+
+-- 1 for true, 0 for false
+unfoldable pub one : Bool → ℕ
+one true = 1
+one false = 0
+
+-- how many k below n satisfy p
+unfoldable pub countBelow : (ℕ → Bool) → ℕ → ℕ
+countBelow p zero = 0
+countBelow p (suc n) = countBelow p n + one (p n)
+
+-- how many positions are held
+unfoldable pub size : List ℕ → ℕ
+size ws = countBelow (holds ws) 256
+
+-- no position is held
+pub record Empty (ws : List ℕ) : Type 0 where
+  pub none : (k : ℕ) → holds ws k ≡ false
+
+-- ws holds the positions of a and of b, and no other
+pub record United (a b ws : List ℕ) : Type 0 where
+  pub either : (k : ℕ) → holds ws k ≡ holds a k || holds b k
+
+-- `after` is `before` with position k more. From 256 on there is none, and nothing changes
+pub record Added (before : List ℕ) (k : ℕ) (after : List ℕ) : Type 0 where
+  pub below : k < 256 → (j : ℕ) → holds after j ≡ holds before j || eqb j k
+  pub above : 256 ≤ k → after ≡ before
