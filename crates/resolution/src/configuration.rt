@@ -9,8 +9,8 @@ use crate::row::count;
 use crate::row::empty;
 use crate::row::union;
 use crate::row::with;
-use crate::row::word_has;
-use crate::row::word_with;
+use crate::word::word_has;
+use crate::word::word_with;
 
 pub struct Configuration {
     pub members: [u64; 4],

@@ -1,4 +1,5 @@
 // Resolution over module positions: rows of bits, the configuration, and what transitive requirements reach.
 pub mod configuration;
-pub mod reach;
+mod reach;
 pub mod row;
+mod word;

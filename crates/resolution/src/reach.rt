@@ -5,8 +5,8 @@ ghost use Rattle.resolution.specs.Graph.{edge, AddedEdge, Collected, Rea
 use crate::row::Row;
 use crate::row::has;
 use crate::row::with;
-use crate::row::word_has;
-use crate::row::word_with;
+use crate::word::word_has;
+use crate::word::word_with;
 
 // There is an edge from i to j.
 pub fn edge_at(g: &[u64], i: usize, j: usize) -> bool

@@ -1,29 +1,14 @@
 // A set of up to 256 module positions, as a row of four words.
 ghost use mathlib.Core.Path.{_≡_};
-ghost use mathlib.Core.Bool.{_||_};
-ghost use Prim.Native.Nat.{ℕ, _<_, _≤_};
+ghost use Prim.Native.Nat.{_<_, _≤_};
 ghost use lib.Dec.{eqb};
 ghost use lib.Count;
-ghost use Rattle.resolution.specs.Row.{bit, holds, size, Empty, United, Added};
+ghost use Rattle.resolution.specs.Row.{holds, size, Empty, United, Added};
+use crate::word::word_has;
+use crate::word::word_with;
 
 pub struct Row {
     pub words: [u64; 4],
-}
-
-// Bit b of w.
-pub fn word_has(w: u64, b: usize) -> bool
-    requires { ⌜ b < 64 ⌝ }
-    ensures { λ r. ⌜ r ≡ bit w b ⌝ }
-{
-    (w >> b) % 2 == 1
-}
-
-// w with bit b set.
-pub fn word_with(w: u64, b: usize) -> u64
-    requires { ⌜ b < 64 ⌝ }
-    ensures { λ r. ⌜ ((k : ℕ) → bit r k ≡ bit w k || eqb k b) ⌝ }
-{
-    w | (1u64 << b)
 }
 
 // Position k is held. No position from 256 on is.

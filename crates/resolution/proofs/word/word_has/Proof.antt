@@ -1,7 +1,7 @@
 use Rattle.resolution.proofs.row.Bits.{bit-shift}
 use borrow.Author.Needs.{needs}
-use Rattle.resolution.proofs.row.word_has.Statement.{statement}
-use Rattle.resolution.proofs.row.word_has.Tie as tie
+use Rattle.resolution.proofs.word.word_has.Statement.{statement}
+use Rattle.resolution.proofs.word.word_has.Tie as tie
 
 pub word-has-spec : {M : Type 1} → statement M
 word-has-spec =

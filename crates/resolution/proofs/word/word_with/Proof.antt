@@ -1,7 +1,7 @@
 use Rattle.resolution.proofs.row.Bits.{bit-with}
 use borrow.Author.Needs.{needs}
-use Rattle.resolution.proofs.row.word_with.Statement.{statement}
-use Rattle.resolution.proofs.row.word_with.Tie as tie
+use Rattle.resolution.proofs.word.word_with.Statement.{statement}
+use Rattle.resolution.proofs.word.word_with.Tie as tie
 
 pub word-with-spec : {M : Type 1} → statement M
 word-with-spec =
