@@ -16,3 +16,12 @@ pub mod Visit
 pub mod Positions
 pub mod Cases
 pub mod Sets
+pub mod ResolverQueue
+pub mod ResolverRun
+pub mod ResolverRounds
+pub mod ResolverOrder
+pub mod ResolverWhole
+pub mod ByteCases
+pub mod WordBits
+pub mod PackageOwner
+pub mod Absence

@@ -89,7 +89,7 @@ not-located n s e = turned (hasModule s n) refl (sym (find-name n s 0) ∙ e)
     turned true h k = absurd (let z : _≡_ {A = ℕ} 0 1 = cc in omega arith)
     turned false h k = (h, find-none n s h)
 
-at-mem : (s : List Descriptor) (i : ℕ) → i < length s → Mem (moduleAt s i) s
+pub at-mem : (s : List Descriptor) (i : ℕ) → i < length s → Mem (moduleAt s i) s
 at-mem [] i h = absurd (omega arith)
 at-mem (m ∷ ms) zero h = List·Memᴰ·head refl
 at-mem (m ∷ ms) (suc i) h = List·Memᴰ·tail (at-mem ms i (omega arith))

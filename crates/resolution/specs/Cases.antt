@@ -1,4 +1,6 @@
--- The sets and requests of document 01's cases 1 to 5 and 10 ("Cases to prove"), decoded, and the parts of an answer that they tell.
+-- The sets and requests of document 01's cases 1 to 5 and 10 ("Cases to prove"), as bytes and decoded, and the parts of an answer
+-- that they tell.
+use Prim.Native.Nat.{ℕ}
 use mathlib.Core.Bool.{Bool, true, false}
 use mathlib.Core.Option.{Option}
 use mathlib.Core.List.{List, [], _∷_, map, flatMap}
@@ -108,3 +110,29 @@ pages =
     ∷ moduleOf pageFoot (requirement pageFrames false ∷ []) [] (reader ∷ []) (footPackage ∷ [])
     ∷ moduleOf pageFrames [] [] [] (framePackage ∷ [])
     ∷ []
+
+-- ---- the same as bytes
+
+-- java.base (PK java/lang)
+unfoldable pub baseSet : List ℕ
+baseSet = 77 ∷ 79 ∷ 0 ∷ 14 ∷ 0 ∷ 0 ∷ 0 ∷ 9 ∷ 106 ∷ 97 ∷ 118 ∷ 97 ∷ 46 ∷ 98 ∷ 97 ∷ 115 ∷ 101 ∷ 0 ∷ 80 ∷ 75 ∷ 0 ∷ 10 ∷ 9 ∷ 106 ∷ 97 ∷ 118 ∷ 97 ∷ 47 ∷ 108 ∷ 97 ∷ 110 ∷ 103 ∷ []
+
+-- the listing's set: java.base (PK java/lang); page.core (RQ transitive page.frames, US page/Reader); page.foot (RQ page.frames,
+-- PV page/Reader, PK page/foot); page.frames (PK page/frame)
+unfoldable pub listingSet : List ℕ
+listingSet = 77 ∷ 79 ∷ 0 ∷ 14 ∷ 0 ∷ 0 ∷ 0 ∷ 9 ∷ 106 ∷ 97 ∷ 118 ∷ 97 ∷ 46 ∷ 98 ∷ 97 ∷ 115 ∷ 101 ∷ 0 ∷ 80 ∷ 75 ∷ 0 ∷ 10 ∷ 9 ∷ 106 ∷ 97 ∷ 118 ∷ 97 ∷ 47 ∷ 108 ∷ 97 ∷ 110 ∷ 103 ∷ 77 ∷ 79 ∷ 0 ∷ 14 ∷ 0 ∷ 0 ∷ 0 ∷ 9 ∷ 112 ∷ 97 ∷ 103 ∷ 101 ∷ 46 ∷ 99 ∷ 111 ∷ 114 ∷ 101 ∷ 0 ∷ 82 ∷ 81 ∷ 0 ∷ 15 ∷ 0 ∷ 32 ∷ 11 ∷ 112 ∷ 97 ∷ 103 ∷ 101 ∷ 46 ∷ 102 ∷ 114 ∷ 97 ∷ 109 ∷ 101 ∷ 115 ∷ 0 ∷ 85 ∷ 83 ∷ 0 ∷ 12 ∷ 11 ∷ 112 ∷ 97 ∷ 103 ∷ 101 ∷ 47 ∷ 82 ∷ 101 ∷ 97 ∷ 100 ∷ 101 ∷ 114 ∷ 77 ∷ 79 ∷ 0 ∷ 14 ∷ 0 ∷ 0 ∷ 0 ∷ 9 ∷ 112 ∷ 97 ∷ 103 ∷ 101 ∷ 46 ∷ 102 ∷ 111 ∷ 111 ∷ 116 ∷ 0 ∷ 82 ∷ 81 ∷ 0 ∷ 15 ∷ 0 ∷ 0 ∷ 11 ∷ 112 ∷ 97 ∷ 103 ∷ 101 ∷ 46 ∷ 102 ∷ 114 ∷ 97 ∷ 109 ∷ 101 ∷ 115 ∷ 0 ∷ 80 ∷ 86 ∷ 0 ∷ 29 ∷ 11 ∷ 112 ∷ 97 ∷ 103 ∷ 101 ∷ 47 ∷ 82 ∷ 101 ∷ 97 ∷ 100 ∷ 101 ∷ 114 ∷ 0 ∷ 1 ∷ 14 ∷ 112 ∷ 97 ∷ 103 ∷ 101 ∷ 47 ∷ 102 ∷ 111 ∷ 111 ∷ 116 ∷ 47 ∷ 73 ∷ 109 ∷ 112 ∷ 108 ∷ 80 ∷ 75 ∷ 0 ∷ 10 ∷ 9 ∷ 112 ∷ 97 ∷ 103 ∷ 101 ∷ 47 ∷ 102 ∷ 111 ∷ 111 ∷ 116 ∷ 77 ∷ 79 ∷ 0 ∷ 16 ∷ 0 ∷ 0 ∷ 0 ∷ 11 ∷ 112 ∷ 97 ∷ 103 ∷ 101 ∷ 46 ∷ 102 ∷ 114 ∷ 97 ∷ 109 ∷ 101 ∷ 115 ∷ 0 ∷ 80 ∷ 75 ∷ 0 ∷ 11 ∷ 10 ∷ 112 ∷ 97 ∷ 103 ∷ 101 ∷ 47 ∷ 102 ∷ 114 ∷ 97 ∷ 109 ∷ 101 ∷ []
+
+unfoldable pub cycleSet : List ℕ
+cycleSet = 77 ∷ 79 ∷ 0 ∷ 14 ∷ 0 ∷ 0 ∷ 0 ∷ 9 ∷ 106 ∷ 97 ∷ 118 ∷ 97 ∷ 46 ∷ 98 ∷ 97 ∷ 115 ∷ 101 ∷ 0 ∷ 80 ∷ 75 ∷ 0 ∷ 10 ∷ 9 ∷ 106 ∷ 97 ∷ 118 ∷ 97 ∷ 47 ∷ 108 ∷ 97 ∷ 110 ∷ 103 ∷ 77 ∷ 79 ∷ 0 ∷ 6 ∷ 0 ∷ 0 ∷ 0 ∷ 1 ∷ 97 ∷ 0 ∷ 82 ∷ 81 ∷ 0 ∷ 5 ∷ 0 ∷ 32 ∷ 1 ∷ 98 ∷ 0 ∷ 77 ∷ 79 ∷ 0 ∷ 6 ∷ 0 ∷ 0 ∷ 0 ∷ 1 ∷ 98 ∷ 0 ∷ 82 ∷ 81 ∷ 0 ∷ 5 ∷ 0 ∷ 32 ∷ 1 ∷ 97 ∷ 0 ∷ []
+
+-- RT page.core
+unfoldable pub listingRequest : List ℕ
+listingRequest = 82 ∷ 84 ∷ 0 ∷ 10 ∷ 9 ∷ 112 ∷ 97 ∷ 103 ∷ 101 ∷ 46 ∷ 99 ∷ 111 ∷ 114 ∷ 101 ∷ []
+
+-- RT a
+unfoldable pub rootA : List ℕ
+rootA = 82 ∷ 84 ∷ 0 ∷ 2 ∷ 1 ∷ 97 ∷ []
+
+-- RT a, and LM without names
+unfoldable pub rootANothingPermitted : List ℕ
+rootANothingPermitted = 82 ∷ 84 ∷ 0 ∷ 2 ∷ 1 ∷ 97 ∷ 76 ∷ 77 ∷ 0 ∷ 2 ∷ 0 ∷ 0 ∷ []

@@ -13,3 +13,11 @@ pub mod Cases
 pub mod Row
 pub mod Graph
 pub mod Configuration
+pub mod Resolve
+pub mod Resolver
+pub mod Filter
+pub mod Runs
+pub mod Readability
+pub mod Configure
+pub mod Absent
+pub mod PackageOwner

@@ -74,7 +74,7 @@ front-records t e =
     let w : leb (suc (recordMore f)) (length f) ≡ true = rw (more-front t, long) (le-leb n n (omega arith)) in
     records-cons f w ∙ rw (more-front t, take-take n n t (omega arith)) (ap (λ (l : List (List ℕ)). f ∷ l) (records-end f n (omega (arith, long))))
 
-front-first : (t x : List ℕ) → whole t ≡ true → records (take (suc (recordMore t)) t ++ x) ≡ take (suc (recordMore t)) t ∷ records x
+pub front-first : (t x : List ℕ) → whole t ≡ true → records (take (suc (recordMore t)) t ++ x) ≡ take (suc (recordMore t)) t ∷ records x
 unfolding joined
 front-first t x e =
     let f : List ℕ = take (suc (recordMore t)) t in

@@ -103,7 +103,7 @@ none-of-count p n e k l = go (p k) refl
         (arith, count-strict (λ _. false) p n k l (λ j b h. let z : _≡_ {A = ℕ} 0 1 = cc in absurd (omega arith)) refl q))
 
 -- ---- the set bits of a number
-one-digit : (d : ℕ) → d < 2 → one (eqb d 1) ≡ d
+pub one-digit : (d : ℕ) → d < 2 → one (eqb d 1) ≡ d
 unfolding one
 one-digit zero h = refl
 one-digit (suc zero) h = refl

@@ -1,0 +1,227 @@
+-- What each function around the resolver returns.
+use mathlib.Core.Path.{_≡_, refl, sym, ap, _∙_, subst}
+use mathlib.Core.Bool.{Bool, true, false, _&&_, _||_, and-false, or-false, or-true}
+use mathlib.Core.List.{List, [], _∷_, map}
+use mathlib.Core.Option.{some}
+use Prim.Native.Nat.{ℕ, zero, suc, _+_, _≤_, _<_}
+use native.Mathlib.Omega.{arith}
+use native.Mathlib.Numerals.{add-one}
+use lib.Dec.{eqb, ltb}
+use lib.ListN.{length, getD, take, replicate, length-map, length-take, List·getD-map}
+use lib.Seq.{getD-take, take-suc}
+use mir.Syntax.{w64}
+use mir.Val.{Fits}
+use borrow.Author.Tests.{eq-eqb, ne-eqb, eqb-true, lt-ltb, ltb-true, ltb-false}
+use Rattle.records.specs.Descriptor.{Descriptor, descriptorOf}
+use Rattle.records.specs.Request.{requestOf, isPermitted}
+use Rattle.records.specs.Set.{checkSet, nameAt, modules, distinct}
+use Rattle.records.specs.declared.error.ModuleError.{ModuleError}
+use Rattle.records.specs.declared.set.SetAnswer.the-variants.{Modules}
+use Rattle.records.proofs.set.Blocks.{GoodSet, good-set}
+use Rattle.resolution.specs.Lists.{Name, Mem, any}
+use Rattle.resolution.specs.Resolution.{names, find, hasModule}
+use Rattle.resolution.specs.Positions.{moduleAt}
+use Rattle.resolution.specs.Row.{holds, Empty, Added}
+use Rattle.resolution.specs.Readability.{Members, ReadEdges}
+use Rattle.resolution.specs.Resolver.{isOneOf}
+use Rattle.resolution.specs.Resolve.{memberAt, edgeAt, unnamedAt, configurationOf, refused}
+use Rattle.resolution.specs.Configure.{MemberRow, AcceptedWith, Configured, PermittedRow}
+use Rattle.resolution.specs.declared.resolve.Outcome.the-variants.{Accepted, Refused}
+use Rattle.resolution.specs.declared.resolve.Resolution.{Resolution}
+use Rattle.resolution.proofs.Find.{has-find, unique-of}
+use Rattle.resolution.proofs.Lists.{any-out, by, map-out, true≠false}
+use Rattle.resolution.proofs.Positions.{at-mem, index-at, has-at}
+use Rattle.resolution.proofs.Sets.{set-length}
+use Rattle.resolution.proofs.configure.Words.{words-are, edges-are}
+use Rattle.resolution.proofs.resolver.Ends.{one-of-end}
+
+-- ---- the permitted positions
+
+before : (j k : ℕ) → j < k + 1 → eqb j k ≡ false → j < k
+before j k b y = by (ltb j k) (λ z. ltb-true j k z) (λ z. true≠false (eq-eqb j k (omega (arith, ltb-false j k z))) y)
+
+-- within a list, what stands for its end does not matter
+getD-any : {A : Type 0} (l : List A) (i : ℕ) (a b : A) → i < length l → getD l i a ≡ getD l i b
+getD-any [] i a b h = absurd (omega arith)
+getD-any (x ∷ l) zero a b h = refl
+getD-any (x ∷ l) (suc i) a b h = getD-any l i a b (omega arith)
+
+module _ (s : List ℕ) (n : ℕ) (t : List ℕ) (e : checkSet s ≡ record { answer = Modules n; starts = t }) where
+  good : GoodSet s n t
+  good = good-set s n t e
+
+  long : length (map (nameAt s) (take n t)) ≡ n
+  long = ap length (good .names) ∙ length-map (modules s) (λ (m : Descriptor). m .name) ∙ set-length s n t good
+
+  -- the table has a start for each module
+  pub starts-long : (k : ℕ) → k < n → k < length t
+  starts-long k l = omega (arith, long, length-map (take n t) (nameAt s), length-take n t)
+
+  -- the name found by the table is the name of the module
+  pub name-at-start : (k : ℕ) → k < n → nameAt s (getD t k 0) ≡ moduleAt (modules s) k .name
+  name-at-start k l =
+      ap (nameAt s) (sym (getD-take n t k 0 l)) ∙ sym (List·getD-map (nameAt s) (take n t) k 0)
+      ∙ getD-any (map (nameAt s) (take n t)) k (nameAt s 0) (descriptorOf [] .name) (omega (arith, long))
+      ∙ ap (λ (x : List Name). getD x k (descriptorOf [] .name)) (good .names)
+      ∙ List·getD-map (λ (m : Descriptor). m .name) (modules s) k (descriptorOf [])
+
+-- those below k are looked at
+pub record PermittedAt (s q : List ℕ) (n : ℕ) (ws : List ℕ) (k : ℕ) : Type 0 where
+  pub within : k ≤ n
+  pub so-far : (j : ℕ) → j < k → holds ws j ≡ isPermitted (requestOf q) (moduleAt (modules s) j .name)
+  pub later : (j : ℕ) → k ≤ j → holds ws j ≡ false
+
+pub permitted-start : (s q : List ℕ) (n : ℕ) (ws : List ℕ) → Empty ws → PermittedAt s q n ws 0
+permitted-start s q n ws h = record { within = omega arith; so-far = λ j l. absurd (omega arith); later = λ j l. h .none j }
+
+pub permitted-end : (s q : List ℕ) (n : ℕ) (ws : List ℕ) (k : ℕ) → PermittedAt s q n ws k → n ≤ k → PermittedRow s q n ws
+permitted-end s q n ws k h l = record { each = λ i b. h .so-far i (omega arith) }
+
+module _ (s q : List ℕ) (n : ℕ) (t : List ℕ) (e : checkSet s ≡ record { answer = Modules n; starts = t })
+    (ws : List ℕ) (k : ℕ) (h : PermittedAt s q n ws k) (l : k < n) (x : Name) (ex : x ≡ nameAt s (getD t k 0))
+    (r : Bool) (er : r ≡ isPermitted (requestOf q) x) where
+  here : r ≡ isPermitted (requestOf q) (moduleAt (modules s) k .name)
+  here = er ∙ ap (isPermitted (requestOf q)) (ex ∙ name-at-start s n t e k l)
+
+  pub permitted-not : r ≡ false → PermittedAt s q n ws (k + 1)
+  permitted-not f = record {
+    within = omega arith;
+    so-far = λ j b. by (eqb j k)
+        (λ y. let i : j ≡ k = eqb-true j k y in
+        subst (λ (z : ℕ). holds ws z ≡ isPermitted (requestOf q) (moduleAt (modules s) z .name)) (sym i) (h .later k (omega arith) ∙ sym f ∙ here))
+        (λ y. h .so-far j (before j k b y));
+    later = λ j b. h .later j (omega arith);
+  }
+
+  pub permitted-more : (after : List ℕ) → r ≡ true → Added ws k after → PermittedAt s q n after (k + 1)
+  permitted-more after f a = record {
+    within = omega arith;
+    so-far = λ j b. added j ∙ by (eqb j k)
+        (λ y. let i : j ≡ k = eqb-true j k y in
+        rw y (or-true (holds ws j)) ∙ sym f ∙ here ∙ ap (λ (z : ℕ). isPermitted (requestOf q) (moduleAt (modules s) z .name)) (sym i))
+        (λ y. rw y (or-false (holds ws j)) ∙ h .so-far j (before j k b y));
+    later = λ j b. added j ∙ rw (ne-eqb j k (λ i. absurd (omega arith))) (or-false (holds ws j)) ∙ h .later j (omega arith);
+  }
+    where
+      added : (j : ℕ) → holds after j ≡ holds ws j || eqb j k
+      added j = a .below (omega (arith, good-set s n t e .few)) j
+
+pub ruleset permitted-laws = (permitted-start, permitted-end, starts-long, permitted-not, permitted-more)
+
+-- ---- the positions as a row
+
+-- those before k are in the row
+pub record MembersAt (order : List ℕ) (n : ℕ) (ws : List ℕ) (k : ℕ) : Type 0 where
+  pub within : k ≤ n
+  pub inside : k ≤ length order
+  pub so-far : MemberRow (take k order) ws
+
+pub members-start : (order : List ℕ) (n : ℕ) (ws : List ℕ) → Empty ws → MembersAt order n ws 0
+unfolding isOneOf any
+members-start order n ws h = record { within = omega arith; inside = omega arith; so-far = record { each = λ k. h .none k ∙ sym (and-false (ltb k 256)) } }
+
+-- the first n are all, where there are no more than n
+take-all : (l : List ℕ) (n k : ℕ) → length l ≤ k → k ≤ n → take k l ≡ take n l
+take-all [] zero zero a b = refl
+take-all [] (suc n) zero a b = refl
+take-all [] zero (suc k) a b = refl
+take-all [] (suc n) (suc k) a b = refl
+take-all (x ∷ l) n zero a b = absurd (omega arith)
+take-all (x ∷ l) zero (suc k) a b = absurd (omega arith)
+take-all (x ∷ l) (suc n) (suc k) a b = ap (λ (r : List ℕ). x ∷ r) (take-all l n k (omega arith) (omega arith))
+
+module _ (order : List ℕ) (n : ℕ) (ws : List ℕ) (k : ℕ) (h : MembersAt order n ws k) where
+  pub members-more : (after : List ℕ) → k < n → k < length order → Added ws (getD order k 0) after → MembersAt order n after (k + 1)
+  members-more after l m a = record {
+    within = omega arith;
+    inside = omega arith;
+    so-far = record { each = λ j. by (ltb (getD order k 0) 256) (λ y. below j (ltb-true (getD order k 0) 256 y)) (λ y. above j (ltb-false (getD order k 0) 256 y)) ∙ sym (more j) };
+  }
+    where
+      p : ℕ
+      p = getD order k 0
+
+      more : (j : ℕ) → ltb j 256 && isOneOf j (take (k + 1) order) ≡ ltb j 256 && (isOneOf j (take k order) || eqb j p)
+      more j = ap (λ (b : Bool). ltb j 256 && b)
+          (ap (λ (i : ℕ). isOneOf j (take i order)) (add-one k) ∙ ap (isOneOf j) (take-suc order k 0 m) ∙ one-of-end j p (take k order))
+
+      outer : (a b c : Bool) → (c ≡ true → a ≡ true) → ((a && b) || c) ≡ (a && (b || c))
+      outer true b c g = refl
+      outer false b true g = true≠false (g refl) refl
+      outer false b false g = refl
+
+      below : (j : ℕ) → p < 256 → holds after j ≡ ltb j 256 && (isOneOf j (take k order) || eqb j p)
+      below j y = a .below y j ∙ ap (λ (b : Bool). b || eqb j p) (h .so-far .each j)
+          ∙ outer (ltb j 256) (isOneOf j (take k order)) (eqb j p) (λ z. lt-ltb j 256 (omega (arith, eqb-true j p z)))
+
+      inner : (a b c : Bool) → (a ≡ true → c ≡ false) → (a && b) ≡ (a && (b || c))
+      inner true b c g = sym (rw (g refl) (or-false b))
+      inner false b c g = refl
+
+      above : (j : ℕ) → 256 ≤ p → holds after j ≡ ltb j 256 && (isOneOf j (take k order) || eqb j p)
+      above j y = ap (λ (l : List ℕ). holds l j) (a .above y) ∙ h .so-far .each j
+          ∙ inner (ltb j 256) (isOneOf j (take k order)) (eqb j p) (λ z. ne-eqb j p (λ i. absurd (omega (arith, ltb-true j 256 z))))
+
+  pub members-past : length order ≤ k → MemberRow (take n order) ws
+  members-past l = subst (λ (ps : List ℕ). MemberRow ps ws) (take-all order n k l (h .within)) (h .so-far)
+
+  pub members-end : n ≤ k → MemberRow (take n order) ws
+  members-end l = let i : k ≡ n = omega (arith, h .within) in subst (λ (x : ℕ). MemberRow (take x order) ws) i (h .so-far)
+
+pub ruleset members-laws = (members-start, members-more, members-past, members-end)
+
+-- ---- the configuration
+
+pub accept-is : (members reads unnamed : List ℕ) → length members ≡ 4 → length reads ≡ 1024 → length unnamed ≡ 4
+    → ((i : ℕ) → Fits w64 (getD members i 0)) → ((i : ℕ) → Fits w64 (getD reads i 0)) → ((i : ℕ) → Fits w64 (getD unnamed i 0))
+    → AcceptedWith members reads unnamed (record { outcome = Accepted; configuration = record { members = members; reads = reads; unnamed = unnamed } })
+accept-is members reads unnamed lm lr lu fm fr fu = record {
+  is = λ p e u hp he hu. rw (← words-are p members 4 lm (λ i. fm i .fits) (λ k l. hp k (omega arith)), ← edges-are e reads lr (λ i. fr i .fits) he, ← words-are u unnamed 4 lu (λ i. fu i .fits) (λ k l. hu k (omega arith)));
+}
+
+-- the row of the positions has the modules at them
+module _ (s : List Descriptor) (d : distinct (names s) ≡ true) (few : length s ≤ 256) (ps ws : List ℕ) (h : MemberRow ps ws)
+    (within : (p : ℕ) → Mem p ps → p < length s) where
+  none-past : (k : ℕ) → length s ≤ k → isOneOf k ps ≡ false
+  unfolding isOneOf
+  none-past k l = by (any (eqb k) ps)
+      (λ y. let r = any-out (eqb k) ps y in absurd (omega (arith, within (r .0) (r .1), eqb-true k (r .0) (r .2))))
+      (λ y. y)
+
+  member-here : (k : ℕ) → k < length s → isOneOf k ps ≡ hasModule (map (moduleAt s) ps) (moduleAt s k .name)
+  unfolding isOneOf
+  member-here k l =
+      let has : hasModule s (moduleAt s k .name) ≡ true = has-find (moduleAt s k .name) s (moduleAt s k) (unique-of s d (moduleAt s k) (at-mem s k l)) in
+      sym (has-at s (moduleAt s k .name) d has ps within ∙ ap (λ (i : ℕ). any (eqb i) ps) (index-at s k d l))
+
+  pub row-members : Members s ws (map (moduleAt s) ps)
+  unfolding memberAt
+  row-members = record {
+    each = λ k. h .each k ∙ by (ltb k (length s))
+        (λ y. let l : k < length s = ltb-true k (length s) y in rw (y, lt-ltb k 256 (omega arith), member-here k l))
+        (λ y. rw (y, none-past k (ltb-false k (length s) y)) (and-false (ltb k 256)));
+    sound = λ m i. let r = map-out (moduleAt s) ps i in
+        subst (λ (x : Descriptor). find (x .name) s ≡ some x) (sym (r .2)) (unique-of s d (moduleAt s (r .0)) (at-mem s (r .0) (within (r .0) (r .1))));
+  }
+
+pub configure-is : (s q : List ℕ) (n : ℕ) (t : List ℕ) → checkSet s ≡ record { answer = Modules n; starts = t }
+    → (ps members reads unnamed : List ℕ) (r : Resolution) → MemberRow ps members → ReadEdges s q members reads unnamed
+    → AcceptedWith members reads unnamed r → Configured s q n ps r
+unfolding configurationOf
+configure-is s q n t e ps members reads unnamed r hm hr ha = record {
+  is = λ ms em w.
+      let g : GoodSet s n t = good-set s n t e in
+      let k : length (modules s) ≡ n = set-length s n t g in
+      let own : Members (modules s) members ms
+      = subst (Members (modules s) members) (sym em)
+      (row-members (modules s) (g .once) (omega (arith, k, g .few)) ps members hm (λ p i. omega (arith, k, w p i))) in
+      ha .is (memberAt (modules s) ms) (edgeAt (modules s) (requestOf q) ms) (unnamedAt (modules s) (requestOf q) ms)
+      (λ i _. own .each i) (λ i j _ _. hr .edges ms own i j) (λ i _. hr .named ms own i);
+}
+
+-- ---- a refusal
+
+pub refuse-is : (e : ModuleError)
+    → _≡_ {A = Resolution} (record { outcome = Refused e; configuration = record { members = replicate 4 0; reads = replicate 1024 0; unnamed = replicate 4 0 } }) (refused e)
+unfolding refused
+refuse-is e = refl

@@ -1,0 +1,14 @@
+use Rattle.resolution.proofs.configure.Laws.{configure-is}
+use borrow.Author.Needs.{needs}
+use Rattle.resolution.proofs.configure.configure.Statement.{statement}
+use Rattle.resolution.proofs.configure.configure.Tie as tie
+
+pub configure-spec : {M : Type 1} → statement M
+configure-spec =
+    tie.close
+    (tie.spec
+    (λ c κs. search needs)
+    (λ c. search needs)
+    (λ c κs. search needs)
+    (λ c κs. search needs)
+    (λ c. search (configure-is, needs)))

@@ -1,0 +1,18 @@
+use Rattle.resolution.proofs.readability.Laws.{add-one-laws}
+use borrow.Author.Needs.{needs}
+use Rattle.resolution.proofs.readability.add_read.Statement.{statement}
+use Rattle.resolution.proofs.readability.add_read.Tie as tie
+
+pub add-read-spec : {M : Type 1} → statement M
+add-read-spec =
+    tie.close
+    (tie.spec
+    (λ c κs. search (add-one-laws, needs))
+    (λ c κs. search (add-one-laws, needs))
+    (λ c κs. search (add-one-laws, needs))
+    (λ c κs. search (add-one-laws, needs))
+    (λ c κs. search (add-one-laws, needs))
+    (λ c κs. search (add-one-laws, needs))
+    (λ c κs. search (add-one-laws, needs))
+    (λ c. search (add-one-laws, needs))
+    (λ c. search (add-one-laws, needs)))

@@ -1,0 +1,27 @@
+use Rattle.resolution.proofs.readability.Laws.{set-row-laws}
+use borrow.Author.Needs.{needs}
+use Rattle.resolution.proofs.readability.set_row.Statement.{statement}
+use Rattle.resolution.proofs.readability.set_row.Tie as tie
+
+pub set-row-spec : {M : Type 1} → statement M
+set-row-spec =
+    tie.close
+    (tie.spec
+    (λ c. search (set-row-laws, needs))
+    (λ c. search (set-row-laws, needs))
+    (λ c. search (set-row-laws, needs))
+    (λ c. search (set-row-laws, needs))
+    (λ c. search (set-row-laws, needs))
+    (λ c. search (set-row-laws, needs))
+    (λ c. search (set-row-laws, needs))
+    (λ c. search (set-row-laws, needs))
+    (λ c. search (set-row-laws, needs))
+    (λ c. search (set-row-laws, needs))
+    (λ c. search (set-row-laws, needs))
+    (λ c. search (set-row-laws, needs))
+    (λ c. search (set-row-laws, needs))
+    (λ c. search (set-row-laws, needs))
+    (λ c. search (set-row-laws, needs))
+    (λ c. search (set-row-laws, needs))
+    (λ c. search (set-row-laws, needs))
+    (λ c. search (set-row-laws, needs)))

@@ -1,0 +1,17 @@
+use Rattle.resolution.proofs.readability.Laws.{unnamed-laws}
+use borrow.Author.Needs.{needs}
+use Rattle.resolution.proofs.readability.with_unnamed.Statement.{statement}
+use Rattle.resolution.proofs.readability.with_unnamed.Tie as tie
+
+pub with-unnamed-spec : {M : Type 1} → statement M
+with-unnamed-spec =
+    tie.close
+    (tie.spec
+    (λ c. search (unnamed-laws, needs))
+    (λ c κs. search (unnamed-laws, needs))
+    (λ c. search (unnamed-laws, needs))
+    (λ c κs. search (unnamed-laws, needs))
+    (λ c. search (unnamed-laws, needs))
+    (λ c. search (unnamed-laws, needs))
+    (λ c. search (unnamed-laws, needs))
+    (λ c. search (unnamed-laws, needs)))

@@ -1,0 +1,108 @@
+-- What each return of `resolve` shows.
+use Prim.Native.Nat.{ℕ, _≤_}
+use mathlib.Core.Path.{_≡_, refl, sym, _∙_, ap, subst}
+use mathlib.Core.Bool.{Bool, true, false}
+use mathlib.Core.List.{List}
+use lib.Dec.{ltb}
+use lib.ListN.{length, take}
+use borrow.Author.Tests.{ltb-true, ltb-false}
+use Rattle.records.specs.Request.{requestOf, checkInputs}
+use Rattle.records.specs.Set.{checkSet, modules, refused as refusedSet}
+use Rattle.records.specs.declared.error.ModuleError.{ModuleError}
+use Rattle.records.specs.declared.error.ModuleError.the-variants.{TooLarge}
+use Rattle.records.specs.declared.set.Checked.{Checked}
+use Rattle.records.specs.declared.set.SetAnswer.the-variants as Set
+use Rattle.records.proofs.Logic.{clash}
+use Rattle.records.proofs.request.Laws.{inputs-long}
+use Rattle.records.proofs.set.Blocks.{good-set}
+use Rattle.resolution.specs.Loop.{Result, failed, done}
+use Rattle.resolution.specs.Resolution.{State, Refusal}
+use Rattle.resolution.specs.Resolution as Resolution
+use Rattle.resolution.specs.Resolve.{refused, errorOf, told, answered, resolve}
+use Rattle.resolution.specs.Resolver.{Line, lineAt, startOn, resolveAt}
+use Rattle.resolution.specs.Configure.{PermittedRow, Configured}
+use Rattle.resolution.specs.declared.resolve.Resolution as Declared
+use Rattle.resolution.specs.declared.resolver.Halt.{Halt}
+use Rattle.resolution.specs.declared.resolver.Halt.the-variants as Halt
+use Rattle.resolution.specs.declared.resolver.Queue.{Queue}
+use Rattle.resolution.proofs.ResolverRun.{Answer, refusedWith, positions, answerOn, answerAt}
+use Rattle.resolution.proofs.ResolverWhole.{answerOf, Accepts, resolver-is, resolver-accepts}
+use Rattle.resolution.proofs.readability.Answers.{inputs-taken}
+
+-- ---- a set and a request that the check takes
+
+module _ (s q : List ℕ) (n : ℕ) (t : List ℕ) (e : checkSet s ≡ record { answer = Set.Modules n; starts = t }) where
+  pub checked-few : n ≤ 256
+  checked-few = good-set s n t e .few
+
+  pub checked-short : length s ≤ 65535
+  checked-short = good-set s n t e .short
+
+  module _ (ws : List ℕ) (p : PermittedRow s q n ws) (order : List ℕ) (queue : Queue) (l : lineAt order queue ≡ resolveAt (startOn s q n t ws)) where
+    abbrev R : Result State Refusal
+    R = Resolution.resolve (modules s) (requestOf q)
+
+    answer-is : answerOn (queue .halt) (take (queue .tail) order) ≡ answerOf s q R
+    unfolding answerAt lineAt
+    answer-is = ap answerAt l ∙ resolver-is s q n t e ws (p .each)
+
+    refuses : (x : ModuleError) → answerOn (queue .halt) (take (queue .tail) order) ≡ refusedWith x → (z : Result State Refusal) → R ≡ z → refused x ≡ told s q z
+    unfolding answerOf told
+    refuses x k (failed a) h =
+        let w : refusedWith x ≡ refusedWith (errorOf s q a) = sym k ∙ answer-is ∙ ap (answerOf s q) h in
+        let y : x ≡ errorOf s q a = cc in
+        ap refused y
+    refuses x k (done st) h =
+        let w : refusedWith x ≡ answerOf s q (done st) = sym k ∙ answer-is ∙ ap (answerOf s q) h in
+        clash (cc)
+
+    pub checked-stop : (x : ModuleError) (r : Declared.Resolution) → queue .halt ≡ Halt.Stop x → r ≡ refused x → r ≡ told s q (Resolution.resolve (modules s) (requestOf q))
+    unfolding answerOn
+    checked-stop x r k er = er ∙ refuses x (ap (λ (h : Halt). answerOn h (take (queue .tail) order)) k) R refl
+
+    pub checked-refused : (x : ModuleError) (r : Declared.Resolution) → queue .halt ≡ Halt.Refused x → r ≡ refused x → r ≡ told s q (Resolution.resolve (modules s) (requestOf q))
+    unfolding answerOn
+    checked-refused x r k er = er ∙ refuses x (ap (λ (h : Halt). answerOn h (take (queue .tail) order)) k) R refl
+
+    accepts : (r : Declared.Resolution) → queue .halt ≡ Halt.Open → Configured s q n (take (queue .tail) order) r → (z : Result State Refusal) → R ≡ z → r ≡ told s q z
+    unfolding answerOf told answerOn lineAt
+    accepts r k c (failed a) h =
+        let w : positions (take (queue .tail) order) ≡ refusedWith (errorOf s q a) =
+        sym (ap (λ (x : Halt). answerOn x (take (queue .tail) order)) k) ∙ answer-is ∙ ap (answerOf s q) h in
+        clash (cc)
+    accepts r k c (done st) h =
+        let a : Accepts s n (lineAt order queue) (st .resolved) = subst (λ (x : Line). Accepts s n x (st .resolved)) (sym l) (resolver-accepts s q n t e ws (p .each) st h) in
+        c .is (st .resolved) (a .modules-are) (a .within)
+
+    pub checked-open : (r : Declared.Resolution) → queue .halt ≡ Halt.Open → Configured s q n (take (queue .tail) order) r → r ≡ told s q (Resolution.resolve (modules s) (requestOf q))
+    checked-open r k c = accepts r k c R refl
+
+pub ruleset checked-laws = (checked-few, checked-short, checked-open, checked-stop, checked-refused)
+
+-- ---- any set and request
+
+module _ (s q : List ℕ) (c : Checked) (ec : c ≡ checkInputs s q) where
+  pub resolve-refused : (x : ModuleError) (r : Declared.Resolution) → c .answer ≡ Set.Refused x → r ≡ refused x → r ≡ resolve s q
+  unfolding resolve answered
+  resolve-refused x r k er = er ∙ sym (ap (answered s q) (ap (λ (z : Checked). z .answer) (sym ec) ∙ k))
+
+  module _ (n : ℕ) (k : c .answer ≡ Set.Modules n) where
+    pub resolve-set : checkSet s ≡ record { answer = Set.Modules n; starts = c .starts }
+    resolve-set = inputs-taken s q n c ec k
+
+    pub resolve-short : length q ≤ 65535
+    unfolding refusedSet
+    resolve-short = go (ltb 65535 (length q)) refl
+      where
+        go : (b : Bool) → ltb 65535 (length q) ≡ b → length q ≤ 65535
+        go false h = ltb-false 65535 (length q) h
+        go true h =
+            let long : refusedSet (TooLarge 0) ≡ checkInputs s q = inputs-long s q (refusedSet (TooLarge 0)) (ltb-true 65535 (length q) h) refl in
+            let z : Set.Refused (TooLarge 0) ≡ Set.Modules n = ap (λ (x : Checked). x .answer) (long ∙ sym ec) ∙ k in
+            clash (cc)
+
+    pub resolve-taken : (r : Declared.Resolution) → r ≡ told s q (Resolution.resolve (modules s) (requestOf q)) → r ≡ resolve s q
+    unfolding resolve answered
+    resolve-taken r er = er ∙ sym (ap (answered s q) (ap (λ (z : Checked). z .answer) (sym ec) ∙ k))
+
+pub ruleset resolve-laws = (resolve-refused, resolve-set, resolve-short, resolve-taken)

@@ -1,0 +1,21 @@
+use Rattle.resolution.proofs.resolve.Laws.{checked-laws}
+use borrow.Author.Needs.{needs}
+use Rattle.resolution.proofs.resolve.resolve_checked.Statement.{statement}
+use Rattle.resolution.proofs.resolve.resolve_checked.Tie as tie
+
+pub resolve-checked-spec : {M : Type 1} → statement M
+resolve-checked-spec =
+    tie.close
+    (tie.spec
+    (λ c κs. search (checked-laws, needs))
+    (λ c κs. search (checked-laws, needs))
+    (λ c. search (checked-laws, needs))
+    (λ c. search (checked-laws, needs))
+    (λ c κs. search (checked-laws, needs))
+    (λ c. search (checked-laws, needs))
+    (λ c κs. search (checked-laws, needs))
+    (λ c. search (checked-laws, needs))
+    (λ c κs. search (checked-laws, needs))
+    (λ c. search (checked-laws, needs))
+    (λ c. search (checked-laws, needs))
+    (λ c. search (checked-laws, needs)))

@@ -1,0 +1,8 @@
+pub mod Wants
+pub mod Ends
+pub mod Records
+pub mod Turns
+pub mod Runs
+pub mod Providers
+pub mod AllRounds
+pub mod Start

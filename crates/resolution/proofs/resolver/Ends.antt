@@ -1,0 +1,117 @@
+-- A position comes to the end of the array, which has room for it.
+use Prim.Native.Nat.{ℕ, zero, suc, _+_, _≤_, _<_}
+use mathlib.Core.Path.{_≡_, refl, sym, _∙_, ap, subst}
+use mathlib.Core.Bool.{Bool, true, false, not, _||_, or-false}
+use mathlib.Core.List.{List, [], _∷_, _++_}
+use native.Mathlib.Omega.{arith}
+use lib.Dec.{eqb}
+use lib.ListN.{length, getD, take, set, length-set}
+use lib.Seq.{take-suc-set}
+use borrow.Author.Tests.{eq-eqb, not-true, not-false}
+use Rattle.records.specs.declared.error.ModuleError.{ModuleError}
+use Rattle.resolution.specs.Lists.{any}
+use Rattle.resolution.specs.Row.{countBelow}
+use Rattle.resolution.specs.Resolver.{Line, lineAt, isOneOf, queuedAt, queuedOn, queued, Ready, Within, Moved}
+use Rattle.resolution.specs.declared.resolver.Halt.{Halt}
+use Rattle.resolution.specs.declared.resolver.Halt.the-variants as Halt
+use Rattle.resolution.specs.declared.resolver.Queue.{Queue}
+use Rattle.resolution.specs.declared.resolver.Wanted.{Wanted}
+use Rattle.resolution.specs.declared.resolver.Wanted.the-variants.{Pass, Add, Stop, Refuse}
+use Rattle.resolution.proofs.row.Counts.{count-strict, count-mono}
+
+-- ---- one position more
+
+pub one-of-end : (k i : ℕ) (ps : List ℕ) → isOneOf k (ps ++ (i ∷ [])) ≡ (isOneOf k ps || eqb k i)
+unfolding isOneOf any
+one-of-end k i [] = or-false (eqb k i)
+one-of-end k i (p ∷ ps) = rw (one-of-end k i ps) (assoc (eqb k p) (any (eqb k) ps) (eqb k i))
+  where
+    assoc : (a b c : Bool) → (a || (b || c)) ≡ ((a || b) || c)
+    assoc true b c = refl
+    assoc false b c = refl
+
+left-out : (a b : Bool) → not (a || b) ≡ true → not a ≡ true
+left-out true b e = e
+left-out false b e = refl
+
+last-out : (a : Bool) → not (a || true) ≡ false
+last-out true = refl
+last-out false = refl
+
+-- those that may come are fewer by one
+module _ (count i : ℕ) (ps : List ℕ) (l : i < count) (new : isOneOf i ps ≡ false) where
+  pub fewer : countBelow (λ k. not (isOneOf k (ps ++ (i ∷ [])))) count < countBelow (λ k. not (isOneOf k ps)) count
+  fewer =
+      count-strict (λ k. not (isOneOf k (ps ++ (i ∷ [])))) (λ k. not (isOneOf k ps)) count i l
+      (λ k b h. left-out (isOneOf k ps) (eqb k i) (rw (one-of-end k i ps) at h))
+      (rw (one-of-end i i ps, eq-eqb i i refl) (last-out (isOneOf i ps)))
+      (rw new)
+
+module _ (count : ℕ) (order : List ℕ) (q : Queue) (h : Ready count order q) (i : ℕ) (l : i < count) (r : Bool) (er : r ≡ isOneOf i (take (q .tail) order)) where
+  pub push-there : r ≡ true → Moved count order q (queuedAt i (lineAt order q))
+  unfolding queuedAt lineAt
+  push-there t = record { line = sym (rw (← er, t)); ready = h }
+
+  module _ (t : r ≡ false) where
+    pub push-room : q .tail < 256
+    push-room = omega (arith, h .few, h .room, fewer count i (take (q .tail) order) l (sym er ∙ t))
+
+    pub push-index : q .tail < length order
+    push-index = omega (arith, h .long, push-room)
+
+    ends : take (suc (q .tail)) (set order (q .tail) i) ≡ take (q .tail) order ++ (i ∷ [])
+    ends = take-suc-set order (q .tail) i push-index
+
+    pub push-moved : (o : List ℕ) → o ≡ set order (q .tail) i → Moved count o (record { head = q .head; tail = q .tail + 1; halt = q .halt }) (queuedAt i (lineAt order q))
+    unfolding queuedAt lineAt
+    push-moved o e = record {
+      line = rw (add-one (q .tail), e, ends, ← er, t);
+      ready = record {
+        long = rw (e, length-set order (q .tail) i) (h .long);
+        few = h .few;
+        waits = omega (arith, h .waits);
+        room = rw (add-one (q .tail), e, ends) (omega (arith, h .room, fewer count i (take (q .tail) order) l (sym er ∙ t)));
+      };
+    }
+      where
+        add-one : (n : ℕ) → n + 1 ≡ suc n
+        add-one n = omega arith
+
+pub ruleset push-laws = (push-there, push-room, push-index, push-moved)
+
+-- ---- what is wanted
+
+module _ (count : ℕ) (order : List ℕ) (q : Queue) (h : Ready count order q) where
+  pub enqueue-stopped : (wanted : Wanted) (e : ModuleError) → q .halt ≡ Halt.Stop e → Moved count order q (queued wanted (lineAt order q))
+  unfolding queued queuedOn lineAt
+  enqueue-stopped wanted e t = record { line = sym (rw t); ready = h }
+
+  pub enqueue-refused : (wanted : Wanted) (e : ModuleError) → q .halt ≡ Halt.Refused e → Moved count order q (queued wanted (lineAt order q))
+  unfolding queued queuedOn lineAt
+  enqueue-refused wanted e t = record { line = sym (rw t); ready = h }
+
+  module _ (wanted : Wanted) (t : q .halt ≡ Halt.Open) where
+    pub enqueue-pass : wanted ≡ Pass → Moved count order q (queued wanted (lineAt order q))
+    unfolding queued queuedOn lineAt
+    enqueue-pass e = record { line = sym (rw (t, e)); ready = h }
+
+    pub enqueue-within : (i : ℕ) → wanted ≡ Add i → Within count wanted → i < count
+    unfolding Within
+    enqueue-within i e b = rw e at b
+
+    pub enqueue-add : (i : ℕ) (o : List ℕ) (r : Queue) → wanted ≡ Add i → Moved count o r (queuedAt i (lineAt order q)) → Moved count o r (queued wanted (lineAt order q))
+    unfolding queued queuedOn lineAt
+    enqueue-add i o r e m = record { line = m .line ∙ sym (rw (t, e)); ready = m .ready }
+
+    same-ready : (halt : Halt) → Ready count order (record { head = q .head; tail = q .tail; halt = halt })
+    same-ready halt = record { long = h .long; few = h .few; waits = h .waits; room = h .room }
+
+    pub enqueue-stop : (e : ModuleError) → wanted ≡ Stop e → Moved count order (record { head = q .head; tail = q .tail; halt = Halt.Stop e }) (queued wanted (lineAt order q))
+    unfolding queued queuedOn lineAt
+    enqueue-stop e k = record { line = sym (rw (t, k)); ready = same-ready (Halt.Stop e) }
+
+    pub enqueue-refuse : (e : ModuleError) → wanted ≡ Refuse e → Moved count order (record { head = q .head; tail = q .tail; halt = Halt.Refused e }) (queued wanted (lineAt order q))
+    unfolding queued queuedOn lineAt
+    enqueue-refuse e k = record { line = sym (rw (t, k)); ready = same-ready (Halt.Refused e) }
+
+pub ruleset enqueue-laws = (enqueue-stopped, enqueue-refused, enqueue-pass, enqueue-within, enqueue-add, enqueue-stop, enqueue-refuse)

@@ -1,0 +1,134 @@
+-- The queue of the roots, and the whole.
+use Prim.Native.Nat.{ℕ, zero, suc, _+_, _-_, _≤_, _<_}
+use mathlib.Core.Path.{_≡_, refl, sym, _∙_, ap, subst}
+use mathlib.Core.Bool.{Bool, true, false, not}
+use mathlib.Core.List.{List, [], map}
+use native.Mathlib.Omega.{arith}
+use lib.ListN.{length, take, drop, replicate, length-replicate}
+use Rattle.records.specs.Name.{javaBase, memName, nameOf}
+use Rattle.records.specs.Record.{records, bodies}
+use Rattle.records.specs.Request.{requestOf}
+use Rattle.records.specs.declared.error.Input.the-variants as Input
+use Rattle.records.specs.declared.error.ModuleError.the-variants.{JavaBaseNotFound}
+use Rattle.records.specs.declared.record.Kind.the-variants as Kind
+use Rattle.resolution.specs.Row.{countBelow}
+use Rattle.resolution.specs.Resolver.{Inputs, inputsOf, want, Line, lineAt, isOneOf, pickLine, queued, queueIn, runAt, roundsAt, frontAt, rootsAt, firstAt, thenRounds, startOn, resolveAt, Ready, Fresh, Moved}
+use Rattle.resolution.specs.Filter.{asked}
+use Rattle.resolution.specs.Runs.{Running, Ran, Between}
+use Rattle.resolution.specs.declared.resolver.Halt.{Halt}
+use Rattle.resolution.specs.declared.resolver.Halt.the-variants as Halt
+use Rattle.resolution.specs.declared.resolver.Phase.{Phase}
+use Rattle.resolution.specs.declared.resolver.Queue.{Queue}
+use Rattle.resolution.specs.declared.resolver.Wanted.{Wanted}
+use Rattle.resolution.proofs.row.Counts.{count-le}
+use Rattle.resolution.proofs.filter.Covers.{covers-none}
+use Rattle.resolution.proofs.resolver.Turns.{longer-queued, longer-records}
+
+module _ (set request starts : List ℕ) (phase : Phase) where
+  abbrev w : Inputs
+  w = inputsOf set request starts starts phase
+
+  -- ---- java.base
+
+  module _ (order : List ℕ) (h : Fresh (phase .count) order) where
+    pub front-ready : Ready (phase .count) order (record { head = 0; tail = 0; halt = Halt.Open })
+    front-ready = record {
+      long = h .long;
+      few = h .few;
+      waits = omega arith;
+      room = omega (arith, count-le (λ k. not (isOneOf k (take 0 order))) (phase .count));
+    }
+
+    module _ (r : Bool) (er : r ≡ memName javaBase (map nameOf (bodies Kind.Root request))) where
+      pub front-root : r ≡ true → Moved (phase .count) order (record { head = 0; tail = 0; halt = Halt.Open }) (frontAt w)
+      unfolding frontAt inputsOf requestOf lineAt
+      front-root e = record { line = sym (ap (λ (b : Bool). pickLine b (record { order = []; head = 0; halt = Halt.Open }) (queued (want w javaBase false JavaBaseNotFound) (record { order = []; head = 0; halt = Halt.Open }))) (sym er ∙ e)); ready = front-ready }
+
+      pub front-base : r ≡ false → (wanted : Wanted) (order₂ : List ℕ) (q : Queue) → wanted ≡ want w javaBase false JavaBaseNotFound
+          → Moved (phase .count) order₂ q (queued wanted (lineAt order (record { head = 0; tail = 0; halt = Halt.Open }))) → Moved (phase .count) order₂ q (frontAt w)
+      unfolding frontAt inputsOf requestOf lineAt
+      front-base e wanted order₂ q ew m = record {
+        line =
+            m .line ∙ ap (λ (v : Wanted). queued v (record { order = []; head = 0; halt = Halt.Open })) ew
+            ∙ sym (ap (λ (b : Bool). pickLine b (record { order = []; head = 0; halt = Halt.Open }) (queued (want w javaBase false JavaBaseNotFound) (record { order = []; head = 0; halt = Halt.Open }))) (sym er ∙ e));
+        ready = m .ready;
+      }
+
+  front-head : frontAt w .head ≡ 0
+  unfolding frontAt
+  front-head = go (memName javaBase (requestOf (w .request) .roots))
+    where
+      go : (b : Bool) → pickLine b (record { order = []; head = 0; halt = Halt.Open }) (queued (want w javaBase false JavaBaseNotFound) (record { order = []; head = 0; halt = Halt.Open })) .head ≡ 0
+      go true = refl
+      go false = longer-queued (want w javaBase false JavaBaseNotFound) (record { order = []; head = 0; halt = Halt.Open }) .head
+
+  -- ---- the roots
+
+  module _ (order : List ℕ) (q : Queue) (m : Moved (phase .count) order q (frontAt w)) where
+    pub roots-ready : Ready (phase .count) order q
+    roots-ready = m .ready
+
+    pub roots-moved : (order₂ : List ℕ) (r : Queue) → Moved (phase .count) order₂ r (queueIn w Input.Request 0 (records (drop 0 request)) (lineAt order q)) → Moved (phase .count) order₂ r (rootsAt w)
+    unfolding rootsAt inputsOf
+    roots-moved order₂ r n = record { line = n .line ∙ ap (queueIn w Input.Request 0 (records request)) (m .line); ready = n .ready }
+
+  roots-head : rootsAt w .head ≡ 0
+  unfolding rootsAt
+  roots-head = longer-records w Input.Request 0 (records (w .request)) (frontAt w) .head ∙ front-head
+
+  -- ---- what they lead to
+
+  module _ (order packages : List ℕ) (q : Queue) (m : Moved (phase .count) order q (rootsAt w)) where
+    starts-at : q .head ≡ 0
+    unfolding lineAt
+    starts-at = ap (λ (l : Line). l .head) (m .line) ∙ roots-head
+
+    pub first-running : length set ≤ 65535 → length packages ≡ 1024 → Running (phase .count) set starts order packages q
+    first-running s l = record {
+      ready = m .ready;
+      short = s;
+      wide = l;
+      covers = rw starts-at (covers-none (asked set starts) Kind.Package packages);
+    }
+
+    pub first-ran : (order₂ packages₂ : List ℕ) (r : Queue) → Ran (phase .count) set starts order₂ packages₂ r (runAt w (suc (phase .count) - q .head) (lineAt order q)) → Ran (phase .count) set starts order₂ packages₂ r (firstAt w)
+    unfolding firstAt inputsOf
+    first-ran order₂ packages₂ r n =
+        let e : suc (phase .count) - q .head ≡ suc (phase .count) = omega (arith, starts-at) in
+        record { line = n .line ∙ rw (e, m .line); running = n .running }
+
+pub ruleset front-laws = (front-ready, front-root, front-base)
+
+pub ruleset roots-laws = (roots-ready, roots-moved)
+
+pub ruleset first-laws = (first-running, first-ran)
+
+-- ---- the whole
+
+pub order-fresh : (count : ℕ) → count ≤ 256 → Fresh count (replicate 256 0)
+order-fresh count l = record { long = length-replicate {A = ℕ} 256 0; few = l }
+
+pub uses-fresh : (count : ℕ) (set starts order packages : List ℕ) (q : Queue) → Running count set starts order packages q → Between count set starts order packages (replicate 1024 0) 0 q
+uses-fresh count set starts order packages q h = record {
+  running = h;
+  used = record { wide = length-replicate {A = ℕ} 1024 0; covers = covers-none (asked set starts) Kind.Uses (replicate 1024 0) };
+  behind = omega arith;
+}
+
+module _ (set request starts words : List ℕ) (count : ℕ) (order packages : List ℕ) (q : Queue)
+    (m : Ran count set starts order packages q (firstAt (inputsOf set request starts starts (record { count = count; permitted = words; in_round = false; before = 0 })))) where
+  pub order-running : Running count set starts order packages q
+  order-running = m .running
+
+  pub order-is : (order₂ : List ℕ) (r : Queue)
+      → Moved count order₂ r (roundsAt (inputsOf set request starts order (record { count = count; permitted = words; in_round = true; before = q .tail })) (suc count) (lineAt order q))
+      → lineAt order₂ r ≡ resolveAt (startOn set request count starts words)
+  unfolding resolveAt thenRounds inputsOf lineAt
+  order-is order₂ r n =
+      n .line
+      ∙ ap (λ (l : Line). roundsAt (record { set = set; request = request; starts = starts; count = count; permitted = words; inRound = true; before = l .order }) (suc count) l) (m .line)
+
+pub order-wide : length (replicate {A = ℕ} 1024 0) ≡ 1024
+order-wide = length-replicate {A = ℕ} 1024 0
+
+pub ruleset order-laws = (order-fresh, order-running, order-is, order-wide)

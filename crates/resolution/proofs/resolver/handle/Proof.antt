@@ -1,0 +1,25 @@
+use Rattle.resolution.proofs.resolver.Turns.{handle-laws, handle-refused}
+use borrow.Author.Needs.{needs}
+use Rattle.resolution.proofs.resolver.handle.Statement.{statement}
+use Rattle.resolution.proofs.resolver.handle.Tie as tie
+
+pub handle-spec : {M : Type 1} → statement M
+handle-spec =
+    tie.close
+    (tie.spec
+    (λ c. search (handle-laws, needs))
+    (λ c. search (handle-laws, needs))
+    (λ c κs. search (handle-laws, needs))
+    (λ c. search (handle-laws, needs))
+    (λ c κs. search (handle-laws, needs))
+    (λ c. search (handle-laws, needs))
+    (λ c. search (handle-laws, needs))
+    (λ c. search (handle-laws, needs))
+    (λ c. search (handle-laws, needs))
+    (λ c. search (handle-laws, needs))
+    (λ c. search (handle-laws, needs))
+    (λ c. search (handle-laws, needs))
+    (λ c. search (handle-laws, needs))
+    (λ c. search (handle-laws, needs))
+    (λ c. search (handle-laws, needs))
+    (λ c. search handle-refused))

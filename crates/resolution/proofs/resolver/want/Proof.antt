@@ -1,0 +1,18 @@
+use Rattle.resolution.proofs.resolver.Wants.{want-laws}
+use borrow.Author.Needs.{needs}
+use Rattle.resolution.proofs.resolver.want.Statement.{statement}
+use Rattle.resolution.proofs.resolver.want.Tie as tie
+
+pub want-spec : {M : Type 1} → statement M
+want-spec =
+    tie.close
+    (tie.spec
+    (λ c κs. search (want-laws, needs))
+    (λ c. search (want-laws, needs))
+    (λ c κs. search (want-laws, needs))
+    (λ c. search (want-laws, needs))
+    (λ c. search (want-laws, needs))
+    (λ c. search (want-laws, needs))
+    (λ c κs. search (want-laws, needs))
+    (λ c. search (want-laws, needs))
+    (λ c. search (want-laws, needs)))

@@ -1,0 +1,319 @@
+// Who reads whom among the members: the read edges, over positions in the set.
+ghost use mathlib.Core.Path.{_≡_};
+ghost use mathlib.Core.Bool.{not, _||_};
+ghost use Prim.Native.Nat.{_<_};
+ghost use lib.ListN.{length};
+ghost use Rattle.records.specs.Descriptor.{descriptorOf, requirementOf};
+ghost use Rattle.records.specs.Request.{readOf, requestOf};
+ghost use Rattle.records.specs.Set.{checkSet, blockAt};
+ghost use Rattle.records.specs.Finder.{findName};
+ghost use Rattle.records.specs.declared.set.SetAnswer.the-variants.{Modules};
+ghost use Rattle.resolution.specs.Row.{holds};
+ghost use Rattle.resolution.specs.Readability.{tableNames, memberOf, isNamed, requiredAt, directAt, othersAt, transitiveAt, unnamedFrom, edgeFrom, Below, ModuleReads, WithMore, Holding, WithEdges, RowSet, TransitiveGraph, ReadRows, ReadAdded, ReadsAdded, ReadEdges};
+use crate::reach::reachable_from;
+use crate::reach::set_edge;
+use crate::row::Row;
+use crate::row::empty;
+use crate::row::has;
+use crate::row::with;
+use records::bytes::part;
+use records::bytes::same;
+use records::descriptor::is_automatic;
+use records::descriptor::is_transitive;
+use records::descriptor::name;
+use records::descriptor::required;
+use records::finder::Found;
+use records::finder::find;
+use records::name::after_name;
+use records::name::name_of;
+use records::record::Cursor;
+use records::record::Kind;
+use records::record::Next;
+use records::set::block;
+
+// The member of this name.
+fn member(set: &[u8], starts: &[usize], count: usize, members: Row, name: &[u8]) -> Found
+    ensures { λ r. ⌜ r ≡ memberOf (members .words) (findName (tableNames (now (set .entry)) (now (starts .entry)) count) (now (name .entry)) 0) ⌝ }
+{
+    match find(set, starts, count, name) {
+        Found::At(i) => {
+            if has(members, i) {
+                return Found::At(i);
+            }
+            Found::Nothing
+        }
+        Found::Nothing => Found::Nothing,
+    }
+}
+
+// The row with the member of this name more.
+fn with_member(
+    set: &[u8],
+    starts: &[usize],
+    count: usize,
+    members: Row,
+    row: Row,
+    name: &[u8],
+) -> Row
+    ensures { λ r. ⌜ WithMore (row .words) (isNamed (tableNames (now (set .entry)) (now (starts .entry)) count) (members .words) (now (name .entry))) (r .words) ⌝ }
+{
+    match member(set, starts, count, members, name) {
+        Found::At(i) => with(row, i),
+        Found::Nothing => row,
+    }
+}
+
+// Whether a requirement counts, where `only` says that only transitive ones do.
+fn counts(only: bool, body: &[u8]) -> bool
+    ensures { λ r. ⌜ r ≡ not only || requirementOf (now (body .entry)) .transitive ⌝ }
+{
+    if only {
+        return is_transitive(body);
+    }
+    true
+}
+
+// The members that a block requires, or only those that it requires transitively.
+fn required_members(
+    set: &[u8],
+    starts: &[usize],
+    count: usize,
+    members: Row,
+    block: &[u8],
+    only: bool,
+) -> Row
+    ensures { λ r. ⌜ Holding (r .words) (requiredAt (tableNames (now (set .entry)) (now (starts .entry)) count) (members .words) only (descriptorOf (now (block .entry)) .requires)) ⌝ }
+{
+    let mut row = empty();
+    let mut c = Cursor { at: 0 };
+    loop {
+        match c.next(block, Kind::Requires) {
+            Next::Body { start, len, next } => {
+                let body = part(block, start, len);
+                c = next;
+                if counts(only, body) {
+                    row = with_member(set, starts, count, members, row, required(body));
+                }
+            }
+            Next::Nothing => {
+                return row;
+            }
+        }
+    }
+}
+
+// The members that a block's module reads directly: those that it requires, and java.base (not for itself).
+fn direct_members(set: &[u8], starts: &[usize], count: usize, members: Row, block: &[u8]) -> Row
+    ensures { λ r. ⌜ Holding (r .words) (directAt (tableNames (now (set .entry)) (now (starts .entry)) count) (members .words) (descriptorOf (now (block .entry)))) ⌝ }
+{
+    let row = required_members(set, starts, count, members, block, false);
+    if same(name(block), b"java.base") {
+        return row;
+    }
+    with_member(set, starts, count, members, row, b"java.base")
+}
+
+// The row with all members but p more.
+fn with_others(row: Row, members: Row, p: usize) -> Row
+    ensures { λ r. ⌜ WithMore (row .words) (othersAt (members .words) p) (r .words) ⌝ }
+{
+    let mut out = row;
+    let mut k: usize = 0;
+    while k < 256 {
+        let j = k;
+        k += 1;
+        if j != p {
+            if has(members, j) {
+                out = with(out, j);
+            }
+        }
+    }
+    out
+}
+
+// The members that the module at p requires transitively; none, where it is no member.
+fn transitive_row(set: &[u8], starts: &[usize], count: usize, members: Row, p: usize) -> Row
+    ensures { λ r. ⌜ Holding (r .words) (transitiveAt (tableNames (now (set .entry)) (now (starts .entry)) count) (members .words) (holds (members .words) p) (descriptorOf (blockAt (now (set .entry)) (now (starts .entry)) p))) ⌝ }
+{
+    if has(members, p) {
+        return required_members(set, starts, count, members, block(set, starts, p), true);
+    }
+    empty()
+}
+
+// What the module at p reads without AR, by the graph of transitive requirements.
+fn read_row(
+    set: &[u8],
+    starts: &[usize],
+    count: usize,
+    members: Row,
+    graph: &[u64],
+    p: usize,
+) -> Row
+    requires { ⌜ length (now graph) ≡ 1024 ⌝ }
+    ensures { λ r. ⌜ ModuleReads (tableNames (now (set .entry)) (now (starts .entry)) count) (members .words) (now (graph .entry)) (descriptorOf (blockAt (now (set .entry)) (now (starts .entry)) p)) p (holds (r .words)) ⌝ }
+{
+    if has(members, p) {
+        let b = block(set, starts, p);
+        let direct = direct_members(set, starts, count, members, b);
+        let row = reachable_from(graph, direct);
+        if is_automatic(b) {
+            return with_others(row, members, p);
+        }
+        return row;
+    }
+    empty()
+}
+
+// Row i of the graph anew.
+fn set_row(g: &mut [u64], i: usize, row: Row)
+    requires { ⌜ length (now g) ≡ 1024 ⌝ }
+    requires { ⌜ i < 256 ⌝ }
+    ensures { λ _. ⌜ RowSet (now (g .entry)) i (row .words) (now (g .exit)) ⌝ }
+{
+    let words = row.words;
+    let at = i * 4;
+    g[at] = words[0];
+    g[at + 1] = words[1];
+    g[at + 2] = words[2];
+    g[at + 3] = words[3];
+}
+
+// The graph of the transitive requirements between members.
+fn set_transitive(set: &[u8], starts: &[usize], count: usize, members: Row, graph: &mut [u64])
+    requires { ⌜ length (now graph) ≡ 1024 ⌝ }
+    ensures { λ _. ⌜ TransitiveGraph (now (set .entry)) (now (starts .entry)) count (members .words) (now (graph .exit)) ⌝ }
+{
+    let mut k: usize = 0;
+    while k < 256 {
+        let row = transitive_row(set, starts, count, members, k);
+        set_row(graph, k, row);
+        k += 1;
+    }
+}
+
+// Each row of `reads` anew: what that module reads without AR.
+fn set_reads(
+    set: &[u8],
+    starts: &[usize],
+    count: usize,
+    members: Row,
+    graph: &[u64],
+    reads: &mut [u64],
+)
+    requires { ⌜ length (now graph) ≡ 1024 ⌝ }
+    requires { ⌜ length (now reads) ≡ 1024 ⌝ }
+    ensures { λ _. ⌜ ReadRows (now (set .entry)) (now (starts .entry)) count (members .words) (now (graph .entry)) (now (reads .exit)) ⌝ }
+{
+    let mut k: usize = 0;
+    while k < 256 {
+        let row = read_row(set, starts, count, members, graph, k);
+        set_row(reads, k, row);
+        k += 1;
+    }
+}
+
+// The row with the source of an AR to ALL-UNNAMED more.
+fn with_unnamed(source: Found, target: &[u8], row: Row) -> Row
+    requires { ⌜ Below source ⌝ }
+    ensures { λ r. ⌜ WithMore (row .words) (unnamedFrom source (now (target .entry))) (r .words) ⌝ }
+{
+    if same(target, b"ALL-UNNAMED") {
+        match source {
+            Found::At(i) => {
+                return with(row, i);
+            }
+            Found::Nothing => {
+                return row;
+            }
+        }
+    }
+    row
+}
+
+// The edge of an AR.
+fn set_read(source: Found, target: Found, reads: &mut [u64])
+    requires { ⌜ Below source ⌝ }
+    requires { ⌜ Below target ⌝ }
+    requires { ⌜ length (now reads) ≡ 1024 ⌝ }
+    ensures { λ _. ⌜ WithEdges (now (reads .entry)) (edgeFrom source target) (now (reads .exit)) ⌝ }
+{
+    match source {
+        Found::At(i) => {
+            match target {
+                Found::At(j) => {
+                    set_edge(reads, i, j);
+                }
+                Found::Nothing => {}
+            }
+        }
+        Found::Nothing => {}
+    }
+}
+
+// The edge of an AR is added; the row with its source more, if it leads to ALL-UNNAMED.
+fn add_read(
+    set: &[u8],
+    starts: &[usize],
+    count: usize,
+    members: Row,
+    body: &[u8],
+    unnamed: Row,
+    reads: &mut [u64],
+) -> Row
+    requires { ⌜ length (now reads) ≡ 1024 ⌝ }
+    ensures { λ r. ⌜ ReadAdded (tableNames (now (set .entry)) (now (starts .entry)) count) (members .words) (readOf (now (body .entry))) (now (reads .entry)) (now (reads .exit)) (unnamed .words) (r .words) ⌝ }
+{
+    let target = name_of(after_name(body));
+    let from = member(set, starts, count, members, name_of(body));
+    let to = member(set, starts, count, members, target);
+    set_read(from, to, reads);
+    with_unnamed(from, target, unnamed)
+}
+
+// The edges of the request's AR are added; the members with an AR to ALL-UNNAMED.
+fn add_reads(
+    set: &[u8],
+    request: &[u8],
+    starts: &[usize],
+    count: usize,
+    members: Row,
+    reads: &mut [u64],
+) -> Row
+    requires { ⌜ length (now reads) ≡ 1024 ⌝ }
+    ensures { λ r. ⌜ ReadsAdded (tableNames (now (set .entry)) (now (starts .entry)) count) (members .words) (requestOf (now (request .entry)) .addReads) (now (reads .entry)) (now (reads .exit)) (r .words) ⌝ }
+{
+    let mut unnamed = empty();
+    let mut c = Cursor { at: 0 };
+    loop {
+        match c.next(request, Kind::AddReads) {
+            Next::Body { start, len, next } => {
+                let body = part(request, start, len);
+                c = next;
+                unnamed = add_read(set, starts, count, members, body, unnamed, reads);
+            }
+            Next::Nothing => {
+                return unnamed;
+            }
+        }
+    }
+}
+
+// The read edges of the members; the row of those that read ALL-UNNAMED.
+pub fn read_edges(
+    set: &[u8],
+    request: &[u8],
+    starts: &[usize],
+    count: usize,
+    members: Row,
+    reads: &mut [u64],
+) -> Row
+    requires { ⌜ checkSet (now set) ≡ record { answer = Modules count; starts = now starts } ⌝ }
+    requires { ⌜ length (now reads) ≡ 1024 ⌝ }
+    ensures { λ r. ⌜ ReadEdges (now (set .entry)) (now (request .entry)) (members .words) (now (reads .exit)) (r .words) ⌝ }
+{
+    let mut graph = [0u64; 1024];
+    set_transitive(set, starts, count, members, &mut graph);
+    set_reads(set, starts, count, members, &graph, reads);
+    add_reads(set, request, starts, count, members, reads)
+}

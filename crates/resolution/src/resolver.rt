@@ -1,0 +1,704 @@
+// The queue of resolution over positions in the set, until none waits, and the rounds.
+ghost use mathlib.Core.Path.{_≡_};
+ghost use mathlib.Core.Bool.{false, _&&_, not};
+ghost use mathlib.Core.List.{[]};
+ghost use Prim.Native.Nat.{suc, _-_, _≤_, _<_};
+ghost use lib.Dec.{eqb};
+ghost use lib.ListN.{length, getD, take, drop};
+ghost use Rattle.records.specs.Record.{records};
+ghost use Rattle.resolution.specs.Resolver.{inputsOf, want as wantOf, wantRecord, wantUnfound, kindFor, Within, lineAt, queued, queuedAt, queueIn, advancedAt, handleAt, isOpen, runAt, isProviderAt, offeredAt, provideAt, isDone, roundAt, roundsAt, frontAt, rootsAt, firstAt, startOn, resolveAt, Ready, Fresh, Moved};
+ghost use Rattle.resolution.specs.Runs.{Running, Ran, Used, Between, Rounded};
+use crate::filter::mark_names;
+use crate::modules::end_of;
+use crate::modules::find_split;
+use crate::modules::is_met_before;
+use crate::modules::is_one_of;
+use crate::modules::is_provider;
+use crate::modules::start_of;
+use crate::row::Row;
+use crate::row::has;
+use records::bytes::head;
+use records::bytes::part;
+use records::bytes::same;
+use records::descriptor::has_named;
+use records::descriptor::is_static;
+use records::descriptor::required;
+use records::error::Input;
+use records::error::ModuleError;
+use records::finder::Found;
+use records::finder::find;
+use records::name::name_of;
+use records::record::Cursor;
+use records::record::Kind;
+use records::record::Next;
+use records::request::is_permitted;
+use records::set::block;
+
+// What ends the queue.
+pub enum Halt {
+    // Nothing: it goes on.
+    Open,
+    // An absent name was queued: the modules that wait come first.
+    Stop(ModuleError),
+    // A refusal: nothing comes first.
+    Refused(ModuleError),
+}
+
+// What becomes of a name that a record queues.
+pub enum Wanted {
+    Pass,
+    // The module at this position is queued.
+    Add(usize),
+    Stop(ModuleError),
+    Refuse(ModuleError),
+}
+
+// An array of positions goes with it: those before head are resolved, in order, and those from there to tail wait.
+pub struct Queue {
+    pub head: usize,
+    pub tail: usize,
+    pub halt: Halt,
+}
+
+// How many modules the set has, which of them are permitted, whether a round is being made, and how many modules were resolved
+// before the rounds.
+pub struct Phase {
+    pub count: usize,
+    pub permitted: [u64; 4],
+    pub in_round: bool,
+    pub before: usize,
+}
+
+// What becomes of an absent name that is not static.
+fn want_absent(
+    set: &[u8],
+    request: &[u8],
+    starts: &[usize],
+    old: &[usize],
+    phase: Phase,
+    name: &[u8],
+    error: ModuleError,
+) -> Wanted
+    ensures { λ r. ⌜ r ≡ wantUnfound (inputsOf (now (set .entry)) (now (request .entry)) (now (starts .entry)) (now (old .entry)) phase) (now (name .entry)) error ⌝ }
+    ensures { λ r. ⌜ Within (phase .count) r ⌝ }
+{
+    if phase.in_round {
+        if is_met_before(set, request, starts, old, phase.before, name) {
+            return Wanted::Pass;
+        }
+        return Wanted::Refuse(error);
+    }
+    if is_permitted(request, name) {
+        if same(name, b"java.base") {
+            return Wanted::Stop(ModuleError::JavaBaseNotFound);
+        }
+        return Wanted::Stop(error);
+    }
+    Wanted::Pass
+}
+
+// What becomes of a name, and the refusal where it is absent.
+fn want(
+    set: &[u8],
+    request: &[u8],
+    starts: &[usize],
+    old: &[usize],
+    phase: Phase,
+    name: &[u8],
+    optional: bool,
+    error: ModuleError,
+) -> Wanted
+    ensures { λ r. ⌜ r ≡ wantOf (inputsOf (now (set .entry)) (now (request .entry)) (now (starts .entry)) (now (old .entry)) phase) (now (name .entry)) optional error ⌝ }
+    ensures { λ r. ⌜ Within (phase .count) r ⌝ }
+{
+    match find(set, starts, phase.count, name) {
+        Found::At(i) => {
+            let words = phase.permitted;
+            if has(Row { words }, i) {
+                return Wanted::Add(i);
+            }
+            Wanted::Pass
+        }
+        Found::Nothing => {
+            if optional {
+                return Wanted::Pass;
+            }
+            want_absent(set, request, starts, old, phase, name, error)
+        }
+    }
+}
+
+// What becomes of the name in the record with this body at start: of the set an RQ, of the request an RT.
+fn want_record(
+    set: &[u8],
+    request: &[u8],
+    starts: &[usize],
+    old: &[usize],
+    phase: Phase,
+    input: Input,
+    body: &[u8],
+    start: usize,
+) -> Wanted
+    requires { ⌜ start ≤ 65535 ⌝ }
+    ensures { λ r. ⌜ r ≡ wantRecord (inputsOf (now (set .entry)) (now (request .entry)) (now (starts .entry)) (now (old .entry)) phase) input (now (body .entry)) start ⌝ }
+    ensures { λ r. ⌜ Within (phase .count) r ⌝ }
+{
+    match input {
+        Input::Set => {
+            let name = required(body);
+            let error = ModuleError::ModuleNotFound(Input::Set, start + 3, name.len());
+            want(
+                set,
+                request,
+                starts,
+                old,
+                phase,
+                name,
+                is_static(body),
+                error,
+            )
+        }
+        Input::Request => {
+            let name = name_of(body);
+            let error = ModuleError::ModuleNotFound(Input::Request, start + 1, name.len());
+            want(set, request, starts, old, phase, name, false, error)
+        }
+        Input::Packages => Wanted::Pass,
+    }
+}
+
+fn kind_for(input: Input) -> Kind
+    ensures { λ r. ⌜ r ≡ kindFor input ⌝ }
+{
+    match input {
+        Input::Set => Kind::Requires,
+        Input::Request => Kind::Root,
+        Input::Packages => Kind::Other,
+    }
+}
+
+// Position i comes to the end, unless it is there.
+fn push(order: &mut [usize], q: Queue, count: usize, i: usize) -> Queue
+    requires { ⌜ Ready count (now order) q ⌝ }
+    requires { ⌜ i < count ⌝ }
+    ensures { λ r. ⌜ Moved count (now (order .exit)) r (queuedAt i (lineAt (now (order .entry)) q)) ⌝ }
+{
+    let at = q.tail;
+    if is_one_of(order, at, i) {
+        return q;
+    }
+    order[at] = i;
+    let head = q.head;
+    let halt = q.halt;
+    Queue {
+        head,
+        tail: at + 1,
+        halt,
+    }
+}
+
+// A name is queued, as is wanted; after a halt nothing is.
+fn enqueue(order: &mut [usize], q: Queue, count: usize, wanted: Wanted) -> Queue
+    requires { ⌜ Ready count (now order) q ⌝ }
+    requires { ⌜ Within count wanted ⌝ }
+    ensures { λ r. ⌜ Moved count (now (order .exit)) r (queued wanted (lineAt (now (order .entry)) q)) ⌝ }
+{
+    let halt = q.halt;
+    match halt {
+        Halt::Open => match wanted {
+            Wanted::Pass => q,
+            Wanted::Add(i) => push(order, q, count, i),
+            Wanted::Stop(e) => Queue {
+                head: q.head,
+                tail: q.tail,
+                halt: Halt::Stop(e),
+            },
+            Wanted::Refuse(e) => Queue {
+                head: q.head,
+                tail: q.tail,
+                halt: Halt::Refused(e),
+            },
+        },
+        Halt::Stop(_) => q,
+        Halt::Refused(_) => q,
+    }
+}
+
+// The names that the records of source from `at` on queue.
+fn queue_records(
+    set: &[u8],
+    request: &[u8],
+    starts: &[usize],
+    old: &[usize],
+    phase: Phase,
+    input: Input,
+    source: &[u8],
+    at: usize,
+    order: &mut [usize],
+    q: Queue,
+) -> Queue
+    requires { ⌜ Ready (phase .count) (now order) q ⌝ }
+    requires { ⌜ length (now source) ≤ 65535 ⌝ }
+    ensures { λ r. ⌜ Moved (phase .count) (now (order .exit)) r (queueIn (inputsOf (now (set .entry)) (now (request .entry)) (now (starts .entry)) (now (old .entry)) phase) input at (records (drop at (now (source .entry)))) (lineAt (now (order .entry)) q)) ⌝ }
+{
+    let kind = kind_for(input);
+    let mut c = Cursor { at };
+    let mut line = q;
+    loop {
+        match c.next(source, kind) {
+            Next::Body { start, len, next } => {
+                let wanted = want_record(
+                    set,
+                    request,
+                    starts,
+                    old,
+                    phase,
+                    input,
+                    part(source, start, len),
+                    start,
+                );
+                line = enqueue(order, line, phase.count, wanted);
+                c = next;
+            }
+            Next::Nothing => {
+                return line;
+            }
+        }
+    }
+}
+
+// The module at the head is resolved, and its requirements are queued.
+fn advance(
+    set: &[u8],
+    request: &[u8],
+    starts: &[usize],
+    old: &[usize],
+    phase: Phase,
+    order: &mut [usize],
+    packages: &mut [u64],
+    q: Queue,
+) -> Queue
+    requires { ⌜ Running (phase .count) (now set) (now starts) (now order) (now packages) q ⌝ }
+    requires { ⌜ q .head < q .tail ⌝ }
+    ensures { λ r. ⌜ Ran (phase .count) (now (set .entry)) (now (starts .entry)) (now (order .exit)) (now (packages .exit)) r (advancedAt (inputsOf (now (set .entry)) (now (request .entry)) (now (starts .entry)) (now (old .entry)) phase) (lineAt (now (order .entry)) q) (getD (now (order .entry)) (q .head) 0)) ⌝ }
+{
+    let at = q.head;
+    let p = order[at];
+    mark_names(packages, block(set, starts, p), Kind::Package);
+    let source = head(set, end_of(starts, p));
+    let halt = q.halt;
+    let next = Queue {
+        head: at + 1,
+        tail: q.tail,
+        halt,
+    };
+    queue_records(
+        set,
+        request,
+        starts,
+        old,
+        phase,
+        Input::Set,
+        source,
+        start_of(starts, p),
+        order,
+        next,
+    )
+}
+
+// The module at the head: its packages are tested first.
+fn handle(
+    set: &[u8],
+    request: &[u8],
+    starts: &[usize],
+    old: &[usize],
+    phase: Phase,
+    order: &mut [usize],
+    packages: &mut [u64],
+    q: Queue,
+) -> Queue
+    requires { ⌜ Running (phase .count) (now set) (now starts) (now order) (now packages) q ⌝ }
+    requires { ⌜ q .head < q .tail ⌝ }
+    ensures { λ r. ⌜ Ran (phase .count) (now (set .entry)) (now (starts .entry)) (now (order .exit)) (now (packages .exit)) r (handleAt (inputsOf (now (set .entry)) (now (request .entry)) (now (starts .entry)) (now (old .entry)) phase) (lineAt (now (order .entry)) q)) ⌝ }
+{
+    let at = q.head;
+    let p = order[at];
+    match find_split(set, starts, order, at, packages, p) {
+        Halt::Open => advance(set, request, starts, old, phase, order, packages, q),
+        Halt::Stop(e) => Queue {
+            head: at,
+            tail: q.tail,
+            halt: Halt::Refused(e),
+        },
+        Halt::Refused(e) => Queue {
+            head: at,
+            tail: q.tail,
+            halt: Halt::Refused(e),
+        },
+    }
+}
+
+// There is no refusal, and a module waits.
+fn goes_on(q: Queue) -> bool
+    ensures { λ r. ⌜ r ≡ (isOpen (q .halt) && not (eqb (q .head) (q .tail))) ⌝ }
+{
+    let halt = q.halt;
+    match halt {
+        Halt::Open => q.head != q.tail,
+        Halt::Stop(_) => q.head != q.tail,
+        Halt::Refused(_) => false,
+    }
+}
+
+// The modules that wait are handled, until none is left or there is a refusal.
+fn run(
+    set: &[u8],
+    request: &[u8],
+    starts: &[usize],
+    old: &[usize],
+    phase: Phase,
+    order: &mut [usize],
+    packages: &mut [u64],
+    q: Queue,
+) -> Queue
+    requires { ⌜ Running (phase .count) (now set) (now starts) (now order) (now packages) q ⌝ }
+    ensures { λ r. ⌜ Ran (phase .count) (now (set .entry)) (now (starts .entry)) (now (order .exit)) (now (packages .exit)) r (runAt (inputsOf (now (set .entry)) (now (request .entry)) (now (starts .entry)) (now (old .entry)) phase) (suc (phase .count) - q .head) (lineAt (now (order .entry)) q)) ⌝ }
+    ensures { λ r. ⌜ (isOpen (r .halt) && not (eqb (r .head) (r .tail))) ≡ false ⌝ }
+{
+    let mut line = q;
+    while goes_on(line) {
+        line = handle(set, request, starts, old, phase, order, packages, line);
+    }
+    line
+}
+
+// The module at i is permitted and provides a service that one of the first n uses.
+fn is_bound(
+    set: &[u8],
+    starts: &[usize],
+    phase: Phase,
+    order: &[usize],
+    n: usize,
+    uses: &[u64],
+    i: usize,
+) -> bool
+    requires { ⌜ Used (now set) (now starts) (now order) (now uses) n ⌝ }
+    ensures { λ r. ⌜ r ≡ isProviderAt (inputsOf (now (set .entry)) [] (now (starts .entry)) [] phase) (take n (now (order .entry))) i ⌝ }
+{
+    let words = phase.permitted;
+    if has(Row { words }, i) {
+        return is_provider(set, starts, order, n, uses, i);
+    }
+    false
+}
+
+// The module at i is queued, if it provides such a service and is not there.
+fn offer(
+    set: &[u8],
+    starts: &[usize],
+    phase: Phase,
+    order: &mut [usize],
+    n: usize,
+    uses: &[u64],
+    q: Queue,
+    i: usize,
+) -> Queue
+    requires { ⌜ Ready (phase .count) (now order) q ⌝ }
+    requires { ⌜ Used (now set) (now starts) (now order) (now uses) n ⌝ }
+    requires { ⌜ i < phase .count ⌝ }
+    ensures { λ r. ⌜ Moved (phase .count) (now (order .exit)) r (offeredAt (inputsOf (now (set .entry)) [] (now (starts .entry)) [] phase) (take n (now (order .entry))) i (lineAt (now (order .entry)) q)) ⌝ }
+{
+    if is_one_of(order, q.tail, i) {
+        return q;
+    }
+    if is_bound(set, starts, phase, order, n, uses, i) {
+        return enqueue(order, q, phase.count, Wanted::Add(i));
+    }
+    q
+}
+
+// The providers of a round: the modules of the set that are permitted and provide a service that a resolved module uses.
+fn provide(
+    set: &[u8],
+    starts: &[usize],
+    phase: Phase,
+    order: &mut [usize],
+    uses: &[u64],
+    q: Queue,
+) -> Queue
+    requires { ⌜ Ready (phase .count) (now order) q ⌝ }
+    requires { ⌜ Used (now set) (now starts) (now order) (now uses) (q .head) ⌝ }
+    ensures { λ r. ⌜ Moved (phase .count) (now (order .exit)) r (provideAt (inputsOf (now (set .entry)) [] (now (starts .entry)) [] phase) (lineAt (now (order .entry)) q)) ⌝ }
+{
+    let n = q.head;
+    let mut i = 0;
+    let mut line = q;
+    while i < phase.count {
+        line = offer(set, starts, phase, order, n, uses, line, i);
+        i += 1;
+    }
+    line
+}
+
+// Marks the services that the modules from number `from` to `to` use.
+fn mark_uses(
+    set: &[u8],
+    starts: &[usize],
+    order: &[usize],
+    from: usize,
+    to: usize,
+    uses: &mut [u64],
+)
+    requires { ⌜ Used (now set) (now starts) (now order) (now uses) from ⌝ }
+    requires { ⌜ from ≤ to ⌝ }
+    requires { ⌜ to ≤ length (now order) ⌝ }
+    ensures { λ _. ⌜ Used (now (set .entry)) (now (starts .entry)) (now (order .entry)) (now (uses .exit)) to ⌝ }
+{
+    let mut k = from;
+    while k < to {
+        let i = order[k];
+        mark_names(uses, block(set, starts, i), Kind::Uses);
+        k += 1;
+    }
+}
+
+// Nothing ends the queue.
+fn is_done(q: Queue) -> bool
+    ensures { λ r. ⌜ r ≡ isDone (q .halt) ⌝ }
+{
+    let halt = q.halt;
+    match halt {
+        Halt::Open => true,
+        Halt::Stop(_) => false,
+        Halt::Refused(_) => false,
+    }
+}
+
+// The providers of a round are queued. The uses of the first `marked` modules were marked before.
+fn bind(
+    set: &[u8],
+    starts: &[usize],
+    phase: Phase,
+    order: &mut [usize],
+    uses: &mut [u64],
+    marked: usize,
+    q: Queue,
+) -> Queue
+    requires { ⌜ Ready (phase .count) (now order) q ⌝ }
+    requires { ⌜ Used (now set) (now starts) (now order) (now uses) marked ⌝ }
+    requires { ⌜ marked ≤ q .head ⌝ }
+    ensures { λ r. ⌜ Moved (phase .count) (now (order .exit)) r (provideAt (inputsOf (now (set .entry)) [] (now (starts .entry)) [] phase) (lineAt (now (order .entry)) q)) ⌝ }
+    ensures { λ r. ⌜ Used (now (set .entry)) (now (starts .entry)) (now (order .exit)) (now (uses .exit)) (q .head) ⌝ }
+{
+    mark_uses(set, starts, order, marked, q.head, uses);
+    provide(set, starts, phase, order, uses, q)
+}
+
+// One round: the providers, then the queue.
+fn round(
+    set: &[u8],
+    request: &[u8],
+    starts: &[usize],
+    old: &[usize],
+    phase: Phase,
+    order: &mut [usize],
+    packages: &mut [u64],
+    uses: &mut [u64],
+    marked: usize,
+    q: Queue,
+) -> Queue
+    requires { ⌜ Between (phase .count) (now set) (now starts) (now order) (now packages) (now uses) marked q ⌝ }
+    ensures { λ r. ⌜ Rounded (phase .count) (now (set .entry)) (now (starts .entry)) (now (order .exit)) (now (packages .exit)) (now (uses .exit)) (q .head) r (roundAt (inputsOf (now (set .entry)) (now (request .entry)) (now (starts .entry)) (now (old .entry)) phase) (lineAt (now (order .entry)) q)) ⌝ }
+{
+    let next = bind(set, starts, phase, order, uses, marked, q);
+    run(set, request, starts, old, phase, order, packages, next)
+}
+
+// Round after round, until none finds a provider or there is a refusal.
+fn rounds(
+    set: &[u8],
+    request: &[u8],
+    starts: &[usize],
+    old: &[usize],
+    phase: Phase,
+    order: &mut [usize],
+    packages: &mut [u64],
+    uses: &mut [u64],
+    q: Queue,
+) -> Queue
+    requires { ⌜ Between (phase .count) (now set) (now starts) (now order) (now packages) (now uses) 0 q ⌝ }
+    ensures { λ r. ⌜ Moved (phase .count) (now (order .exit)) r (roundsAt (inputsOf (now (set .entry)) (now (request .entry)) (now (starts .entry)) (now (old .entry)) phase) (suc (phase .count)) (lineAt (now (order .entry)) q)) ⌝ }
+{
+    let mut line = q;
+    let mut marked: usize = 0;
+    while is_done(line) {
+        let from = line.head;
+        line = round(
+            set,
+            request,
+            starts,
+            old,
+            phase,
+            order,
+            packages,
+            uses,
+            marked,
+            line,
+        );
+        marked = from;
+        if line.head == from {
+            return line;
+        }
+    }
+    line
+}
+
+// java.base in front unless it is a root.
+fn front(set: &[u8], request: &[u8], starts: &[usize], phase: Phase, order: &mut [usize]) -> Queue
+    requires { ⌜ Fresh (phase .count) (now order) ⌝ }
+    ensures { λ r. ⌜ Moved (phase .count) (now (order .exit)) r (frontAt (inputsOf (now (set .entry)) (now (request .entry)) (now (starts .entry)) (now (starts .entry)) phase)) ⌝ }
+{
+    let q = Queue {
+        head: 0,
+        tail: 0,
+        halt: Halt::Open,
+    };
+    if has_named(request, Kind::Root, b"java.base") {
+        return q;
+    }
+    let error = ModuleError::JavaBaseNotFound;
+    let wanted = want(
+        set,
+        request,
+        starts,
+        starts,
+        phase,
+        b"java.base",
+        false,
+        error,
+    );
+    enqueue(order, q, phase.count, wanted)
+}
+
+// The queue of the roots. In this phase no module was resolved before the rounds.
+fn resolve_roots(
+    set: &[u8],
+    request: &[u8],
+    starts: &[usize],
+    phase: Phase,
+    order: &mut [usize],
+) -> Queue
+    requires { ⌜ Fresh (phase .count) (now order) ⌝ }
+    requires { ⌜ length (now request) ≤ 65535 ⌝ }
+    ensures { λ r. ⌜ Moved (phase .count) (now (order .exit)) r (rootsAt (inputsOf (now (set .entry)) (now (request .entry)) (now (starts .entry)) (now (starts .entry)) phase)) ⌝ }
+{
+    let q = front(set, request, starts, phase, order);
+    queue_records(
+        set,
+        request,
+        starts,
+        starts,
+        phase,
+        Input::Request,
+        request,
+        0,
+        order,
+        q,
+    )
+}
+
+// The modules that the roots lead to, before the rounds.
+fn resolve_first(
+    set: &[u8],
+    request: &[u8],
+    starts: &[usize],
+    phase: Phase,
+    order: &mut [usize],
+    packages: &mut [u64],
+) -> Queue
+    requires { ⌜ Fresh (phase .count) (now order) ⌝ }
+    requires { ⌜ length (now request) ≤ 65535 ⌝ }
+    requires { ⌜ length (now set) ≤ 65535 ⌝ }
+    requires { ⌜ length (now packages) ≡ 1024 ⌝ }
+    ensures { λ r. ⌜ Ran (phase .count) (now (set .entry)) (now (starts .entry)) (now (order .exit)) (now (packages .exit)) r (firstAt (inputsOf (now (set .entry)) (now (request .entry)) (now (starts .entry)) (now (starts .entry)) phase)) ⌝ }
+{
+    let q = resolve_roots(set, request, starts, phase, order);
+    run(set, request, starts, starts, phase, order, packages, q)
+}
+
+// The rounds, where the uses of no module are marked yet.
+fn all_rounds(
+    set: &[u8],
+    request: &[u8],
+    starts: &[usize],
+    old: &[usize],
+    phase: Phase,
+    order: &mut [usize],
+    packages: &mut [u64],
+    q: Queue,
+) -> Queue
+    requires { ⌜ Running (phase .count) (now set) (now starts) (now order) (now packages) q ⌝ }
+    ensures { λ r. ⌜ Moved (phase .count) (now (order .exit)) r (roundsAt (inputsOf (now (set .entry)) (now (request .entry)) (now (starts .entry)) (now (old .entry)) phase) (suc (phase .count)) (lineAt (now (order .entry)) q)) ⌝ }
+{
+    let mut uses = [0u64; 1024];
+    rounds(
+        set,
+        request,
+        starts,
+        old,
+        phase,
+        order,
+        packages,
+        &mut uses,
+        q,
+    )
+}
+
+// The modules resolved, in order: the first `queue.tail` positions.
+pub struct Ordered {
+    pub order: [usize; 256],
+    pub queue: Queue,
+}
+
+// The queue of the roots, then the rounds.
+pub fn resolve_order(
+    set: &[u8],
+    request: &[u8],
+    starts: &[usize],
+    count: usize,
+    permitted: Row,
+) -> Ordered
+    requires { ⌜ count ≤ 256 ⌝ }
+    requires { ⌜ length (now request) ≤ 65535 ⌝ }
+    requires { ⌜ length (now set) ≤ 65535 ⌝ }
+    ensures { λ r. ⌜ lineAt (r .order) (r .queue) ≡ resolveAt (startOn (now (set .entry)) (now (request .entry)) count (now (starts .entry)) (permitted .words)) ⌝ }
+{
+    let mut order = [0usize; 256];
+    let mut packages = [0u64; 1024];
+    let words = permitted.words;
+    let phase = Phase {
+        count,
+        permitted: words,
+        in_round: false,
+        before: 0,
+    };
+    let first = resolve_first(set, request, starts, phase, &mut order, &mut packages);
+    let old = order;
+    let next = Phase {
+        count,
+        permitted: words,
+        in_round: true,
+        before: first.tail,
+    };
+    let queue = all_rounds(
+        set,
+        request,
+        starts,
+        &old,
+        next,
+        &mut order,
+        &mut packages,
+        first,
+    );
+    Ordered { order, queue }
+}
