@@ -174,8 +174,8 @@ pub fn check_set(set: &[u8]) -> Checked
     }
 }
 
-// Entry i of a table, 0 where there is none.
-fn entry(starts: &[usize], i: usize) -> usize
+// Entry i of a table, 0 where there is none: where module i starts, or the one before it ends.
+pub fn entry(starts: &[usize], i: usize) -> usize
     ensures { λ r. ⌜ r ≡ getD (now (starts .entry)) i 0 ⌝ }
 {
     if starts.len() <= i {

@@ -3,6 +3,3 @@ pub mod Ends
 pub mod Records
 pub mod Turns
 pub mod Runs
-pub mod Providers
-pub mod AllRounds
-pub mod Start

@@ -9,5 +9,7 @@ mod reach;
 mod readability;
 pub mod resolve;
 mod resolver;
+mod roots;
+mod rounds;
 pub mod row;
 mod word;

@@ -29,6 +29,7 @@ use records::record::Kind;
 use records::record::Next;
 use records::record::find_body;
 use records::set::block;
+use records::set::entry;
 
 // Whether i is one of the positions.
 pub fn is_one_of(order: &[usize], n: usize, i: usize) -> bool
@@ -109,16 +110,6 @@ fn position(found: Found) -> usize
     }
 }
 
-// Where module i starts, 0 where there is none.
-pub fn start_of(starts: &[usize], i: usize) -> usize
-    ensures { λ r. ⌜ r ≡ getD (now (starts .entry)) i 0 ⌝ }
-{
-    if starts.len() <= i {
-        return 0;
-    }
-    starts[i]
-}
-
 // Where module i ends, 0 where there is none.
 pub fn end_of(starts: &[usize], i: usize) -> usize
     ensures { λ r. ⌜ r ≡ getD (now (starts .entry)) (i + 1) 0 ⌝ }
@@ -126,7 +117,7 @@ pub fn end_of(starts: &[usize], i: usize) -> usize
     if starts.len() <= i {
         return 0;
     }
-    start_of(starts, i + 1)
+    entry(starts, i + 1)
 }
 
 // The refusal of the module at p for this package of its, which one of the modules at the positions has.
@@ -141,7 +132,7 @@ fn refusal(set: &[u8], starts: &[usize], order: &[usize], n: usize, p: usize, na
             len: _,
             next: _,
         } => {
-            let at = start_of(starts, p) + start + 1;
+            let at = entry(starts, p) + start + 1;
             Halt::Refused(ModuleError::SplitPackage(at, name.len(), owner, p))
         }
         Next::Nothing => Halt::Refused(ModuleError::SplitPackage(1, name.len(), owner, p)),

@@ -12,7 +12,7 @@ use crate::configure::configure;
 use crate::configure::permitted;
 use crate::configure::refuse;
 use crate::resolver::Halt;
-use crate::resolver::resolve_order;
+use crate::roots::resolve_order;
 use records::error::ModuleError;
 use records::request::check;
 use records::set::SetAnswer;

@@ -1,26 +1,22 @@
-// The queue of resolution over positions in the set, until none waits, and the rounds.
+// The queue of resolution over positions in the set, until none waits.
 ghost use mathlib.Core.Path.{_≡_};
 ghost use mathlib.Core.Bool.{false, _&&_, not};
-ghost use mathlib.Core.List.{[]};
 ghost use Prim.Native.Nat.{suc, _-_, _≤_, _<_};
 ghost use lib.Dec.{eqb};
 ghost use lib.ListN.{length, getD, take, drop};
 ghost use Rattle.records.specs.Record.{records};
-ghost use Rattle.resolution.specs.Resolver.{inputsOf, want as wantOf, wantRecord, wantUnfound, kindFor, Within, lineAt, queued, queuedAt, queueIn, advancedAt, handleAt, isOpen, runAt, isProviderAt, offeredAt, provideAt, isDone, roundAt, roundsAt, frontAt, rootsAt, firstAt, startOn, resolveAt, Ready, Fresh, Moved};
-ghost use Rattle.resolution.specs.Runs.{Running, Ran, Used, Between, Rounded};
+ghost use Rattle.resolution.specs.Resolver.{inputsOf, want as wantOf, wantRecord, wantUnfound, kindFor, Within, lineAt, queued, queuedAt, queueIn, advancedAt, handleAt, isOpen, runAt, Ready, Moved};
+ghost use Rattle.resolution.specs.Runs.{Running, Ran};
 use crate::filter::mark_names;
 use crate::modules::end_of;
 use crate::modules::find_split;
 use crate::modules::is_met_before;
 use crate::modules::is_one_of;
-use crate::modules::is_provider;
-use crate::modules::start_of;
 use crate::row::Row;
 use crate::row::has;
 use records::bytes::head;
 use records::bytes::part;
 use records::bytes::same;
-use records::descriptor::has_named;
 use records::descriptor::is_static;
 use records::descriptor::required;
 use records::error::Input;
@@ -33,6 +29,7 @@ use records::record::Kind;
 use records::record::Next;
 use records::request::is_permitted;
 use records::set::block;
+use records::set::entry;
 
 // What ends the queue.
 pub enum Halt {
@@ -98,7 +95,7 @@ fn want_absent(
 }
 
 // What becomes of a name, and the refusal where it is absent.
-fn want(
+pub fn want(
     set: &[u8],
     request: &[u8],
     starts: &[usize],
@@ -198,7 +195,7 @@ fn push(order: &mut [usize], q: Queue, count: usize, i: usize) -> Queue
 }
 
 // A name is queued, as is wanted; after a halt nothing is.
-fn enqueue(order: &mut [usize], q: Queue, count: usize, wanted: Wanted) -> Queue
+pub fn enqueue(order: &mut [usize], q: Queue, count: usize, wanted: Wanted) -> Queue
     requires { ⌜ Ready count (now order) q ⌝ }
     requires { ⌜ Within count wanted ⌝ }
     ensures { λ r. ⌜ Moved count (now (order .exit)) r (queued wanted (lineAt (now (order .entry)) q)) ⌝ }
@@ -225,7 +222,7 @@ fn enqueue(order: &mut [usize], q: Queue, count: usize, wanted: Wanted) -> Queue
 }
 
 // The names that the records of source from `at` on queue.
-fn queue_records(
+pub fn queue_records(
     set: &[u8],
     request: &[u8],
     starts: &[usize],
@@ -300,7 +297,7 @@ fn advance(
         phase,
         Input::Set,
         source,
-        start_of(starts, p),
+        entry(starts, p),
         order,
         next,
     )
@@ -351,7 +348,7 @@ fn goes_on(q: Queue) -> bool
 }
 
 // The modules that wait are handled, until none is left or there is a refusal.
-fn run(
+pub fn run(
     set: &[u8],
     request: &[u8],
     starts: &[usize],
@@ -370,335 +367,4 @@ fn run(
         line = handle(set, request, starts, old, phase, order, packages, line);
     }
     line
-}
-
-// The module at i is permitted and provides a service that one of the first n uses.
-fn is_bound(
-    set: &[u8],
-    starts: &[usize],
-    phase: Phase,
-    order: &[usize],
-    n: usize,
-    uses: &[u64],
-    i: usize,
-) -> bool
-    requires { ⌜ Used (now set) (now starts) (now order) (now uses) n ⌝ }
-    ensures { λ r. ⌜ r ≡ isProviderAt (inputsOf (now (set .entry)) [] (now (starts .entry)) [] phase) (take n (now (order .entry))) i ⌝ }
-{
-    let words = phase.permitted;
-    if has(Row { words }, i) {
-        return is_provider(set, starts, order, n, uses, i);
-    }
-    false
-}
-
-// The module at i is queued, if it provides such a service and is not there.
-fn offer(
-    set: &[u8],
-    starts: &[usize],
-    phase: Phase,
-    order: &mut [usize],
-    n: usize,
-    uses: &[u64],
-    q: Queue,
-    i: usize,
-) -> Queue
-    requires { ⌜ Ready (phase .count) (now order) q ⌝ }
-    requires { ⌜ Used (now set) (now starts) (now order) (now uses) n ⌝ }
-    requires { ⌜ i < phase .count ⌝ }
-    ensures { λ r. ⌜ Moved (phase .count) (now (order .exit)) r (offeredAt (inputsOf (now (set .entry)) [] (now (starts .entry)) [] phase) (take n (now (order .entry))) i (lineAt (now (order .entry)) q)) ⌝ }
-{
-    if is_one_of(order, q.tail, i) {
-        return q;
-    }
-    if is_bound(set, starts, phase, order, n, uses, i) {
-        return enqueue(order, q, phase.count, Wanted::Add(i));
-    }
-    q
-}
-
-// The providers of a round: the modules of the set that are permitted and provide a service that a resolved module uses.
-fn provide(
-    set: &[u8],
-    starts: &[usize],
-    phase: Phase,
-    order: &mut [usize],
-    uses: &[u64],
-    q: Queue,
-) -> Queue
-    requires { ⌜ Ready (phase .count) (now order) q ⌝ }
-    requires { ⌜ Used (now set) (now starts) (now order) (now uses) (q .head) ⌝ }
-    ensures { λ r. ⌜ Moved (phase .count) (now (order .exit)) r (provideAt (inputsOf (now (set .entry)) [] (now (starts .entry)) [] phase) (lineAt (now (order .entry)) q)) ⌝ }
-{
-    let n = q.head;
-    let mut i = 0;
-    let mut line = q;
-    while i < phase.count {
-        line = offer(set, starts, phase, order, n, uses, line, i);
-        i += 1;
-    }
-    line
-}
-
-// Marks the services that the modules from number `from` to `to` use.
-fn mark_uses(
-    set: &[u8],
-    starts: &[usize],
-    order: &[usize],
-    from: usize,
-    to: usize,
-    uses: &mut [u64],
-)
-    requires { ⌜ Used (now set) (now starts) (now order) (now uses) from ⌝ }
-    requires { ⌜ from ≤ to ⌝ }
-    requires { ⌜ to ≤ length (now order) ⌝ }
-    ensures { λ _. ⌜ Used (now (set .entry)) (now (starts .entry)) (now (order .entry)) (now (uses .exit)) to ⌝ }
-{
-    let mut k = from;
-    while k < to {
-        let i = order[k];
-        mark_names(uses, block(set, starts, i), Kind::Uses);
-        k += 1;
-    }
-}
-
-// Nothing ends the queue.
-fn is_done(q: Queue) -> bool
-    ensures { λ r. ⌜ r ≡ isDone (q .halt) ⌝ }
-{
-    let halt = q.halt;
-    match halt {
-        Halt::Open => true,
-        Halt::Stop(_) => false,
-        Halt::Refused(_) => false,
-    }
-}
-
-// The providers of a round are queued. The uses of the first `marked` modules were marked before.
-fn bind(
-    set: &[u8],
-    starts: &[usize],
-    phase: Phase,
-    order: &mut [usize],
-    uses: &mut [u64],
-    marked: usize,
-    q: Queue,
-) -> Queue
-    requires { ⌜ Ready (phase .count) (now order) q ⌝ }
-    requires { ⌜ Used (now set) (now starts) (now order) (now uses) marked ⌝ }
-    requires { ⌜ marked ≤ q .head ⌝ }
-    ensures { λ r. ⌜ Moved (phase .count) (now (order .exit)) r (provideAt (inputsOf (now (set .entry)) [] (now (starts .entry)) [] phase) (lineAt (now (order .entry)) q)) ⌝ }
-    ensures { λ r. ⌜ Used (now (set .entry)) (now (starts .entry)) (now (order .exit)) (now (uses .exit)) (q .head) ⌝ }
-{
-    mark_uses(set, starts, order, marked, q.head, uses);
-    provide(set, starts, phase, order, uses, q)
-}
-
-// One round: the providers, then the queue.
-fn round(
-    set: &[u8],
-    request: &[u8],
-    starts: &[usize],
-    old: &[usize],
-    phase: Phase,
-    order: &mut [usize],
-    packages: &mut [u64],
-    uses: &mut [u64],
-    marked: usize,
-    q: Queue,
-) -> Queue
-    requires { ⌜ Between (phase .count) (now set) (now starts) (now order) (now packages) (now uses) marked q ⌝ }
-    ensures { λ r. ⌜ Rounded (phase .count) (now (set .entry)) (now (starts .entry)) (now (order .exit)) (now (packages .exit)) (now (uses .exit)) (q .head) r (roundAt (inputsOf (now (set .entry)) (now (request .entry)) (now (starts .entry)) (now (old .entry)) phase) (lineAt (now (order .entry)) q)) ⌝ }
-{
-    let next = bind(set, starts, phase, order, uses, marked, q);
-    run(set, request, starts, old, phase, order, packages, next)
-}
-
-// Round after round, until none finds a provider or there is a refusal.
-fn rounds(
-    set: &[u8],
-    request: &[u8],
-    starts: &[usize],
-    old: &[usize],
-    phase: Phase,
-    order: &mut [usize],
-    packages: &mut [u64],
-    uses: &mut [u64],
-    q: Queue,
-) -> Queue
-    requires { ⌜ Between (phase .count) (now set) (now starts) (now order) (now packages) (now uses) 0 q ⌝ }
-    ensures { λ r. ⌜ Moved (phase .count) (now (order .exit)) r (roundsAt (inputsOf (now (set .entry)) (now (request .entry)) (now (starts .entry)) (now (old .entry)) phase) (suc (phase .count)) (lineAt (now (order .entry)) q)) ⌝ }
-{
-    let mut line = q;
-    let mut marked: usize = 0;
-    while is_done(line) {
-        let from = line.head;
-        line = round(
-            set,
-            request,
-            starts,
-            old,
-            phase,
-            order,
-            packages,
-            uses,
-            marked,
-            line,
-        );
-        marked = from;
-        if line.head == from {
-            return line;
-        }
-    }
-    line
-}
-
-// java.base in front unless it is a root.
-fn front(set: &[u8], request: &[u8], starts: &[usize], phase: Phase, order: &mut [usize]) -> Queue
-    requires { ⌜ Fresh (phase .count) (now order) ⌝ }
-    ensures { λ r. ⌜ Moved (phase .count) (now (order .exit)) r (frontAt (inputsOf (now (set .entry)) (now (request .entry)) (now (starts .entry)) (now (starts .entry)) phase)) ⌝ }
-{
-    let q = Queue {
-        head: 0,
-        tail: 0,
-        halt: Halt::Open,
-    };
-    if has_named(request, Kind::Root, b"java.base") {
-        return q;
-    }
-    let error = ModuleError::JavaBaseNotFound;
-    let wanted = want(
-        set,
-        request,
-        starts,
-        starts,
-        phase,
-        b"java.base",
-        false,
-        error,
-    );
-    enqueue(order, q, phase.count, wanted)
-}
-
-// The queue of the roots. In this phase no module was resolved before the rounds.
-fn resolve_roots(
-    set: &[u8],
-    request: &[u8],
-    starts: &[usize],
-    phase: Phase,
-    order: &mut [usize],
-) -> Queue
-    requires { ⌜ Fresh (phase .count) (now order) ⌝ }
-    requires { ⌜ length (now request) ≤ 65535 ⌝ }
-    ensures { λ r. ⌜ Moved (phase .count) (now (order .exit)) r (rootsAt (inputsOf (now (set .entry)) (now (request .entry)) (now (starts .entry)) (now (starts .entry)) phase)) ⌝ }
-{
-    let q = front(set, request, starts, phase, order);
-    queue_records(
-        set,
-        request,
-        starts,
-        starts,
-        phase,
-        Input::Request,
-        request,
-        0,
-        order,
-        q,
-    )
-}
-
-// The modules that the roots lead to, before the rounds.
-fn resolve_first(
-    set: &[u8],
-    request: &[u8],
-    starts: &[usize],
-    phase: Phase,
-    order: &mut [usize],
-    packages: &mut [u64],
-) -> Queue
-    requires { ⌜ Fresh (phase .count) (now order) ⌝ }
-    requires { ⌜ length (now request) ≤ 65535 ⌝ }
-    requires { ⌜ length (now set) ≤ 65535 ⌝ }
-    requires { ⌜ length (now packages) ≡ 1024 ⌝ }
-    ensures { λ r. ⌜ Ran (phase .count) (now (set .entry)) (now (starts .entry)) (now (order .exit)) (now (packages .exit)) r (firstAt (inputsOf (now (set .entry)) (now (request .entry)) (now (starts .entry)) (now (starts .entry)) phase)) ⌝ }
-{
-    let q = resolve_roots(set, request, starts, phase, order);
-    run(set, request, starts, starts, phase, order, packages, q)
-}
-
-// The rounds, where the uses of no module are marked yet.
-fn all_rounds(
-    set: &[u8],
-    request: &[u8],
-    starts: &[usize],
-    old: &[usize],
-    phase: Phase,
-    order: &mut [usize],
-    packages: &mut [u64],
-    q: Queue,
-) -> Queue
-    requires { ⌜ Running (phase .count) (now set) (now starts) (now order) (now packages) q ⌝ }
-    ensures { λ r. ⌜ Moved (phase .count) (now (order .exit)) r (roundsAt (inputsOf (now (set .entry)) (now (request .entry)) (now (starts .entry)) (now (old .entry)) phase) (suc (phase .count)) (lineAt (now (order .entry)) q)) ⌝ }
-{
-    let mut uses = [0u64; 1024];
-    rounds(
-        set,
-        request,
-        starts,
-        old,
-        phase,
-        order,
-        packages,
-        &mut uses,
-        q,
-    )
-}
-
-// The modules resolved, in order: the first `queue.tail` positions.
-pub struct Ordered {
-    pub order: [usize; 256],
-    pub queue: Queue,
-}
-
-// The queue of the roots, then the rounds.
-pub fn resolve_order(
-    set: &[u8],
-    request: &[u8],
-    starts: &[usize],
-    count: usize,
-    permitted: Row,
-) -> Ordered
-    requires { ⌜ count ≤ 256 ⌝ }
-    requires { ⌜ length (now request) ≤ 65535 ⌝ }
-    requires { ⌜ length (now set) ≤ 65535 ⌝ }
-    ensures { λ r. ⌜ lineAt (r .order) (r .queue) ≡ resolveAt (startOn (now (set .entry)) (now (request .entry)) count (now (starts .entry)) (permitted .words)) ⌝ }
-{
-    let mut order = [0usize; 256];
-    let mut packages = [0u64; 1024];
-    let words = permitted.words;
-    let phase = Phase {
-        count,
-        permitted: words,
-        in_round: false,
-        before: 0,
-    };
-    let first = resolve_first(set, request, starts, phase, &mut order, &mut packages);
-    let old = order;
-    let next = Phase {
-        count,
-        permitted: words,
-        in_round: true,
-        before: first.tail,
-    };
-    let queue = all_rounds(
-        set,
-        request,
-        starts,
-        &old,
-        next,
-        &mut order,
-        &mut packages,
-        first,
-    );
-    Ordered { order, queue }
 }

@@ -45,9 +45,6 @@ position-none f e = sym (rw e)
 
 pub ruleset position-laws = (position-at, position-none)
 
-pub start-none : (starts : List ℕ) (i : ℕ) → length starts ≤ i → 0 ≡ getD starts i 0
-start-none starts i l = sym (List·getD-eq-default starts 0 l)
-
 pub end-none : (starts : List ℕ) (i : ℕ) → length starts ≤ i → 0 ≡ getD starts (i + 1) 0
 end-none starts i l = sym (List·getD-eq-default starts 0 (omega (arith, l)))
 

@@ -1,0 +1,14 @@
+use Rattle.resolution.proofs.roots.Laws.{uses-fresh}
+use borrow.Author.Needs.{needs}
+use Rattle.resolution.proofs.rounds.all_rounds.Statement.{statement}
+use Rattle.resolution.proofs.rounds.all_rounds.Tie as tie
+
+pub all-rounds-spec : {M : Type 1} → statement M
+all-rounds-spec =
+    tie.close
+    (tie.spec
+    (λ c. search (uses-fresh, needs))
+    (λ c κs. search (uses-fresh, needs))
+    (λ c. search (uses-fresh, needs))
+    (λ c. search (uses-fresh, needs))
+    (λ c. search (uses-fresh, needs)))

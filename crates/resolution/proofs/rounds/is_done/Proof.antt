@@ -1,0 +1,15 @@
+use Rattle.resolution.proofs.rounds.Laws.{done-laws}
+use borrow.Author.Needs.{needs}
+use Rattle.resolution.proofs.rounds.is_done.Statement.{statement}
+use Rattle.resolution.proofs.rounds.is_done.Tie as tie
+
+pub is-done-spec : {M : Type 1} → statement M
+is-done-spec =
+    tie.close
+    (tie.spec
+    (λ c. search (done-laws, needs))
+    (λ c. search (done-laws, needs))
+    (λ c. search (done-laws, needs))
+    (λ c. search (done-laws, needs))
+    (λ c. search (done-laws, needs))
+    (λ c. search (done-laws, needs)))

@@ -1,0 +1,18 @@
+use Rattle.resolution.proofs.rounds.Providers.{offer-laws, offer-pass}
+use borrow.Author.Needs.{needs}
+use Rattle.resolution.proofs.rounds.offer.Statement.{statement}
+use Rattle.resolution.proofs.rounds.offer.Tie as tie
+
+pub offer-spec : {M : Type 1} → statement M
+offer-spec =
+    tie.close
+    (tie.spec
+    (λ c κs. search (offer-laws, needs))
+    (λ c. search (offer-laws, needs))
+    (λ c. search (offer-laws, needs))
+    (λ c κs. search (offer-laws, needs))
+    (λ c κs. search (offer-laws, needs))
+    (λ c. search (offer-laws, needs))
+    (λ c. search (offer-laws, needs))
+    (λ c. search (offer-laws, needs))
+    (λ c. search offer-pass))

@@ -1,0 +1,25 @@
+use borrow.Author.Needs.{needs}
+use Prim.Native.Nat.{_-_}
+use Rattle.resolution.proofs.rounds.Providers.{ProvideAt, provide-laws}
+use Rattle.resolution.proofs.rounds.provide.Statement.{statement}
+use Rattle.resolution.proofs.rounds.provide.Tie as tie
+
+abbrev Inv-loop : tie.InvT-loop
+Inv-loop set starts phase order₀ uses n i₀ line₀ order i line = ProvideAt set starts uses phase order₀ line₀ n i order line
+
+abbrev μ-loop : tie.MeasureT-loop
+μ-loop set starts phase order₀ uses n i₀ line₀ order i line = phase .count - i
+
+pub provide-spec : {M : Type 1} → statement M
+provide-spec =
+    tie.close
+    (tie.spec
+    Inv-loop
+    μ-loop
+    (λ c. search (provide-laws, needs))
+    (λ c κs. search (provide-laws, needs))
+    (λ c. search (provide-laws, needs))
+    (λ c. search (provide-laws, needs))
+    (λ c. search (provide-laws, needs))
+    (λ c. search (provide-laws, needs))
+    (λ c. search (provide-laws, needs)))

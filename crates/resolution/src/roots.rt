@@ -1,0 +1,141 @@
+// The queue of the roots and what they lead to, then the rounds.
+ghost use mathlib.Core.Path.{_≡_};
+ghost use Prim.Native.Nat.{_≤_};
+ghost use lib.ListN.{length};
+ghost use Rattle.resolution.specs.Resolver.{inputsOf, lineAt, frontAt, rootsAt, firstAt, startOn, resolveAt, Fresh, Moved};
+ghost use Rattle.resolution.specs.Runs.{Ran};
+use crate::resolver::Halt;
+use crate::resolver::Phase;
+use crate::resolver::Queue;
+use crate::resolver::enqueue;
+use crate::resolver::queue_records;
+use crate::resolver::run;
+use crate::resolver::want;
+use crate::rounds::all_rounds;
+use crate::row::Row;
+use records::descriptor::has_named;
+use records::error::Input;
+use records::error::ModuleError;
+use records::record::Kind;
+
+// java.base in front unless it is a root.
+fn front(set: &[u8], request: &[u8], starts: &[usize], phase: Phase, order: &mut [usize]) -> Queue
+    requires { ⌜ Fresh (phase .count) (now order) ⌝ }
+    ensures { λ r. ⌜ Moved (phase .count) (now (order .exit)) r (frontAt (inputsOf (now (set .entry)) (now (request .entry)) (now (starts .entry)) (now (starts .entry)) phase)) ⌝ }
+{
+    let q = Queue {
+        head: 0,
+        tail: 0,
+        halt: Halt::Open,
+    };
+    if has_named(request, Kind::Root, b"java.base") {
+        return q;
+    }
+    let error = ModuleError::JavaBaseNotFound;
+    let wanted = want(
+        set,
+        request,
+        starts,
+        starts,
+        phase,
+        b"java.base",
+        false,
+        error,
+    );
+    enqueue(order, q, phase.count, wanted)
+}
+
+// The queue of the roots. In this phase no module was resolved before the rounds.
+fn resolve_roots(
+    set: &[u8],
+    request: &[u8],
+    starts: &[usize],
+    phase: Phase,
+    order: &mut [usize],
+) -> Queue
+    requires { ⌜ Fresh (phase .count) (now order) ⌝ }
+    requires { ⌜ length (now request) ≤ 65535 ⌝ }
+    ensures { λ r. ⌜ Moved (phase .count) (now (order .exit)) r (rootsAt (inputsOf (now (set .entry)) (now (request .entry)) (now (starts .entry)) (now (starts .entry)) phase)) ⌝ }
+{
+    let q = front(set, request, starts, phase, order);
+    queue_records(
+        set,
+        request,
+        starts,
+        starts,
+        phase,
+        Input::Request,
+        request,
+        0,
+        order,
+        q,
+    )
+}
+
+// The modules that the roots lead to, before the rounds.
+fn resolve_first(
+    set: &[u8],
+    request: &[u8],
+    starts: &[usize],
+    phase: Phase,
+    order: &mut [usize],
+    packages: &mut [u64],
+) -> Queue
+    requires { ⌜ Fresh (phase .count) (now order) ⌝ }
+    requires { ⌜ length (now request) ≤ 65535 ⌝ }
+    requires { ⌜ length (now set) ≤ 65535 ⌝ }
+    requires { ⌜ length (now packages) ≡ 1024 ⌝ }
+    ensures { λ r. ⌜ Ran (phase .count) (now (set .entry)) (now (starts .entry)) (now (order .exit)) (now (packages .exit)) r (firstAt (inputsOf (now (set .entry)) (now (request .entry)) (now (starts .entry)) (now (starts .entry)) phase)) ⌝ }
+{
+    let q = resolve_roots(set, request, starts, phase, order);
+    run(set, request, starts, starts, phase, order, packages, q)
+}
+
+// The modules resolved, in order: the first `queue.tail` positions.
+pub struct Ordered {
+    pub order: [usize; 256],
+    pub queue: Queue,
+}
+
+// The queue of the roots, then the rounds.
+pub fn resolve_order(
+    set: &[u8],
+    request: &[u8],
+    starts: &[usize],
+    count: usize,
+    permitted: Row,
+) -> Ordered
+    requires { ⌜ count ≤ 256 ⌝ }
+    requires { ⌜ length (now request) ≤ 65535 ⌝ }
+    requires { ⌜ length (now set) ≤ 65535 ⌝ }
+    ensures { λ r. ⌜ lineAt (r .order) (r .queue) ≡ resolveAt (startOn (now (set .entry)) (now (request .entry)) count (now (starts .entry)) (permitted .words)) ⌝ }
+{
+    let mut order = [0usize; 256];
+    let mut packages = [0u64; 1024];
+    let words = permitted.words;
+    let phase = Phase {
+        count,
+        permitted: words,
+        in_round: false,
+        before: 0,
+    };
+    let first = resolve_first(set, request, starts, phase, &mut order, &mut packages);
+    let old = order;
+    let next = Phase {
+        count,
+        permitted: words,
+        in_round: true,
+        before: first.tail,
+    };
+    let queue = all_rounds(
+        set,
+        request,
+        starts,
+        &old,
+        next,
+        &mut order,
+        &mut packages,
+        first,
+    );
+    Ordered { order, queue }
+}

@@ -1,0 +1,30 @@
+use Prim.Native.Nat.{_≤_, _-_}
+use borrow.Author.Needs.{needs}
+use Rattle.resolve.proofs.names.place.Statement.{statement}
+use Rattle.resolve.proofs.names.place.Tie as tie
+
+abbrev Inv-loop : tie.InvT-loop
+Inv-loop set table count name low₀ high₀ low high = (low ≤ high) × (high ≤ count)
+
+abbrev μ-loop : tie.MeasureT-loop
+μ-loop set table count name low₀ high₀ low high = high - low
+
+pub place-spec : {M : Type 1} → statement M
+place-spec =
+    tie.close
+    (tie.spec
+    Inv-loop
+    μ-loop
+    (λ c. search needs)
+    (λ c. search needs)
+    (λ c. search needs)
+    (λ c. search needs)
+    (λ c. search needs)
+    (λ c κs. search needs)
+    (λ c κs. search needs)
+    (λ c. search needs)
+    (λ c. search needs)
+    (λ c. search needs)
+    (λ c. search needs)
+    (λ c. search needs)
+    (λ c. search needs))

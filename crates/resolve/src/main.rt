@@ -1,0 +1,205 @@
+// Resolves the set and the request in the files `set` and `request`, and prints the configuration, or the number of the refusal.
+mod names;
+
+ghost use Rattle.io.specs.Counts.{Counts};
+ghost use Prim.Native.Nat.{_≤_};
+ghost use lib.ListN.{length};
+use libc::STDOUT_FILENO;
+use names::in_order;
+use names::module_of;
+use names::name_in;
+use names::place;
+use records::finder::name_at;
+use records::record::Kind;
+use records::set::check_set;
+use resolution::configuration::Configuration;
+use resolution::configuration::row_of;
+use resolution::resolve::Outcome;
+use resolution::row::Row;
+use resolution::row::has;
+
+fn say(text: &[u8]) {
+    io::write_all(STDOUT_FILENO, text);
+}
+
+// This text, a name, and the end of the line.
+fn line(text: &[u8], name: &[u8]) {
+    say(text);
+    say(name);
+    say(b"\n");
+}
+
+// This text, a number, and the end of the line.
+fn number(text: &[u8], n: usize) {
+    say(text);
+    io::print_decimal(STDOUT_FILENO, n as u64);
+    say(b"\n");
+}
+
+// Of the names from `from` up to `to`, those of the modules in the row.
+fn list_row(set: &[u8], starts: &[usize], names: &[usize], from: usize, to: usize, row: Row)
+    requires { ⌜ to ≤ length (now names) ⌝ }
+{
+    let mut k = from;
+    while k < to {
+        let at = names[k];
+        if has(row, module_of(starts, at)) {
+            line(b"reads ", name_in(set, at));
+        }
+        k += 1;
+    }
+}
+
+// The names of the modules in the row, and ALL-UNNAMED in its place among them.
+fn list_reads(set: &[u8], starts: &[usize], names: &[usize], count: usize, row: Row, unnamed: bool)
+    requires { ⌜ count ≤ length (now names) ⌝ }
+{
+    let middle = place(set, names, count, b"ALL-UNNAMED");
+    list_row(set, starts, names, 0, middle, row);
+    if unnamed {
+        line(b"reads ", b"ALL-UNNAMED");
+    }
+    list_row(set, starts, names, middle, count, row);
+}
+
+// The resolved modules by the table of their names, and below each the names that it reads.
+fn list_modules(set: &[u8], starts: &[usize], names: &[usize], count: usize, c: Configuration)
+    requires { ⌜ count ≤ length (now names) ⌝ }
+{
+    let mut k: usize = 0;
+    while k < count {
+        let at = names[k];
+        line(b"module ", name_in(set, at));
+        let i = module_of(starts, at);
+        let words = c.unnamed;
+        list_reads(
+            set,
+            starts,
+            names,
+            count,
+            row_of(c, i),
+            has(Row { words }, i),
+        );
+        k += 1;
+    }
+}
+
+// The name of the module at this position, nothing where there is none.
+fn module_name<'a>(set: &'a [u8], starts: &[usize], i: usize) -> &'a [u8] {
+    if starts.len() <= i {
+        return &set[..0];
+    }
+    name_at(set, starts[i])
+}
+
+// The packages in the table, and beside each the module that has it.
+fn list_owners(set: &[u8], starts: &[usize], packages: &[usize], count: usize)
+    requires { ⌜ count ≤ length (now packages) ⌝ }
+{
+    let mut k: usize = 0;
+    while k < count {
+        let at = packages[k];
+        say(b"owner ");
+        say(name_in(set, at));
+        line(b" ", module_name(set, starts, module_of(starts, at)));
+        k += 1;
+    }
+}
+
+// The modules in byte order. In an MO three bytes stand before the name.
+fn modules(set: &[u8], starts: &[usize], members: Row, c: Configuration)
+    requires { ⌜ length (now set) ≤ 65536 ⌝ }
+{
+    let mut table = [0usize; 16384];
+    let count = in_order(set, starts, members, Kind::Module, 3, &mut table);
+    list_modules(set, starts, &table, count, c);
+}
+
+// The packages in byte order.
+fn owners(set: &[u8], starts: &[usize], members: Row)
+    requires { ⌜ length (now set) ≤ 65536 ⌝ }
+{
+    let mut table = [0usize; 16384];
+    let count = in_order(set, starts, members, Kind::Package, 0, &mut table);
+    list_owners(set, starts, &table, count);
+}
+
+// The configuration that the set and its request resolve to.
+fn list(set: &[u8], c: Configuration)
+    requires { ⌜ length (now set) ≤ 65536 ⌝ }
+{
+    number(b"resolved ", resolution::configuration::len(c));
+    let checked = check_set(set);
+    let starts = checked.starts;
+    let words = c.members;
+    modules(set, &starts, Row { words }, c);
+    owners(set, &starts, Row { words });
+}
+
+// The configuration, or the refusal.
+fn answer(set: &[u8], request: &[u8])
+    requires { ⌜ length (now set) ≤ 65536 ⌝ }
+{
+    let r = resolution::resolve::resolve(set, request);
+    let outcome = r.outcome;
+    match outcome {
+        Outcome::Accepted => list(set, r.configuration),
+        Outcome::Refused(e) => number(b"refused ", e.number()),
+    }
+}
+
+// How many bytes of a file are in its buffer, and whether the file was read to its end or fills the buffer.
+struct Loaded {
+    len: usize,
+    is_read: bool,
+}
+
+// Whether a further read finds the file's end. It does not where the last one failed.
+fn is_ended(fd: i32) -> bool {
+    let mut more = [0u8; 1];
+    libc::read(fd, &mut more) == 0
+}
+
+// The file into the buffer. Where it cannot be read, the message goes to standard error.
+fn load(file: &[u8], message: &[u8], buffer: &mut [u8]) -> Loaded
+    ensures { λ r. ⌜ Counts (r .len) (now (buffer .exit)) ⌝ }
+{
+    let fd = os::open_read(file);
+    if fd < 0 {
+        os::fail(message);
+        return Loaded {
+            len: 0,
+            is_read: false,
+        };
+    }
+    let len = io::read_full(fd, buffer);
+    let mut is_read = true;
+    if len < buffer.len() {
+        if !is_ended(fd) {
+            os::fail(message);
+            is_read = false;
+        }
+    }
+    libc::close(fd);
+    Loaded { len, is_read }
+}
+
+fn main() {
+    let mut set = io::large_buffer();
+    let s = load(b"set", b"resolve: cannot read the file set", &mut set);
+    if !s.is_read {
+        return;
+    }
+    let mut request = io::large_buffer();
+    let q = load(
+        b"request",
+        b"resolve: cannot read the file request",
+        &mut request,
+    );
+    if !q.is_read {
+        return;
+    }
+    let n = s.len;
+    let m = q.len;
+    answer(&set[..n], &request[..m]);
+}
