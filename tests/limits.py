@@ -3,25 +3,7 @@
 import os
 import sys
 
-
-def name(s):
-    return bytes([len(s)]) + s
-
-
-def record(mark, body):
-    return mark + len(body).to_bytes(2, "big") + body
-
-
-def module(n):
-    return record(b"MO", b"\0\0\0" + name(n) + b"\0")
-
-
-def requires(n):
-    return record(b"RQ", b"\0\0" + name(n) + b"\0")
-
-
-def package(n):
-    return record(b"PK", name(n))
+from form import base, listing, module, name, package, record, requires
 
 
 def filled(size):
@@ -43,14 +25,6 @@ def many(count):
     return b"".join(module(b"m%03d" % i) for i in range(count))
 
 
-base = module(b"java.base")
-listing = (
-    base + package(b"java/lang")
-    + module(b"page.core") + record(b"RQ", b"\0\x20" + name(b"page.frames") + b"\0") + record(b"US", name(b"page/Reader"))
-    + module(b"page.foot") + requires(b"page.frames")
-    + record(b"PV", name(b"page/Reader") + b"\0\1" + name(b"page/foot/Impl")) + package(b"page/foot")
-    + module(b"page.frames") + package(b"page/frame")
-)
 limit = record(b"LM", b"\0\1" + name(b"a"))
 files = {
     "set-listing": listing,

@@ -40,7 +40,7 @@ use Rattle.resolution.proofs.Find.{find-mem, has-find}
 use Rattle.resolution.proofs.Lists.{any-in, by, keep-out, map-out, true≠false}
 use Rattle.resolution.proofs.Positions.{index-in, find-at}
 use Rattle.resolution.proofs.Sets.{set-length}
-use Rattle.resolution.proofs.readability.Answers.{inputs-taken}
+use Rattle.records.proofs.request.Taken.{inputs-taken}
 
 -- ---- the record of a place has the name
 

@@ -1,7 +1,7 @@
 -- Document 01's cases 1 to 5 and 10, of the definitions over bytes. What the bytes say is computed; what follows from it is
 -- proofs/Cases.
 use Prim.Native.Nat.{ℕ}
-use mathlib.Core.Path.{_≡_, refl, sym, ap, _∙_}
+use mathlib.Core.Path.{_≡_, refl, ap, _∙_}
 use mathlib.Core.Option.{none, some}
 use mathlib.Core.List.{List, [], _∷_}
 use Rattle.records.specs.Bytes.{sameBytes, u16At}

@@ -23,5 +23,6 @@ pub mod ResolverOrder
 pub mod ResolverWhole
 pub mod ByteCases
 pub mod WordBits
+pub mod Words
 pub mod PackageOwner
 pub mod Absence

@@ -39,7 +39,7 @@ use Rattle.resolution.proofs.Find.{find-mem, has-find, has-some, unique
 use Rattle.resolution.proofs.Positions.{index-in, find-at, at-mem, index-at}
 use Rattle.resolution.proofs.Sets.{set-length, set-distinct, set-accepted}
 use Rattle.resolution.proofs.WordBits.{holds-words}
-use Rattle.resolution.proofs.readability.Answers.{inputs-taken}
+use Rattle.records.proofs.request.Taken.{inputs-taken}
 
 -- ---- the lowest position, of any members
 

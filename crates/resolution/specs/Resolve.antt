@@ -26,7 +26,6 @@ use Rattle.resolution.specs.Reads.{reads}
 use Rattle.resolution.specs.Positions.{moduleAt}
 use Rattle.resolution.specs.Row.{one}
 use Rattle.resolution.specs.declared.configuration.Configuration.{Configuration}
-use Rattle.resolution.specs.declared.resolve.Outcome.{Outcome}
 use Rattle.resolution.specs.declared.resolve.Outcome.the-variants.{Accepted, Refused}
 use Rattle.resolution.specs.declared.resolve.Resolution.{Resolution}
 

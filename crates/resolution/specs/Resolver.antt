@@ -2,7 +2,7 @@
 -- proofs/ResolverWhole shows that this is the short form.
 use Prim.Native.Nat.{ℕ, zero, suc, _+_, _-_, _≤_, _<_}
 use mathlib.Core.Path.{_≡_}
-use mathlib.Core.Bool.{Bool, true, false, not, _&&_, _||_, cond}
+use mathlib.Core.Bool.{Bool, true, false, not, _&&_, _||_}
 use mathlib.Core.Option.{Option, none, some}
 use mathlib.Core.List.{List, [], _∷_, _++_, map}
 use lib.Dec.{eqb}
@@ -10,7 +10,7 @@ use lib.ListN.{length, getD, take}
 use Rattle.records.specs.Bytes.{sameBytes}
 use Rattle.records.specs.Name.{javaBase, memName, nameOf}
 use Rattle.records.specs.Record.{bodyOf, records, isOf, bodies, firstIn}
-use Rattle.records.specs.Descriptor.{Requirement, requirementOf}
+use Rattle.records.specs.Descriptor.{requirementOf}
 use Rattle.records.specs.Request.{requestOf, isPermitted}
 use Rattle.records.specs.Set.{nameAt, blockAt}
 use Rattle.records.specs.Finder.{findName}

@@ -3,7 +3,7 @@ ghost use mathlib.Core.Path.{_≡_};
 ghost use mathlib.Core.Bool.{false, _&&_, not};
 ghost use Prim.Native.Nat.{suc, _-_, _≤_, _<_};
 ghost use lib.Dec.{eqb};
-ghost use lib.ListN.{length, getD, take, drop};
+ghost use lib.ListN.{length, getD, drop};
 ghost use Rattle.records.specs.Record.{records};
 ghost use Rattle.resolution.specs.Resolver.{inputsOf, want as wantOf, wantRecord, wantUnfound, kindFor, Within, lineAt, queued, queuedAt, queueIn, advancedAt, handleAt, isOpen, runAt, Ready, Moved};
 ghost use Rattle.resolution.specs.Runs.{Running, Ran};

@@ -1,7 +1,6 @@
 // Resolves the set and the request in the files `set` and `request`, and prints the configuration, or the number of the refusal.
 mod names;
 
-ghost use Rattle.io.specs.Counts.{Counts};
 ghost use Prim.Native.Nat.{_≤_};
 ghost use lib.ListN.{length};
 use libc::STDOUT_FILENO;
@@ -148,50 +147,14 @@ fn answer(set: &[u8], request: &[u8])
     }
 }
 
-// How many bytes of a file are in its buffer, and whether the file was read to its end or fills the buffer.
-struct Loaded {
-    len: usize,
-    is_read: bool,
-}
-
-// Whether a further read finds the file's end. It does not where the last one failed.
-fn is_ended(fd: i32) -> bool {
-    let mut more = [0u8; 1];
-    libc::read(fd, &mut more) == 0
-}
-
-// The file into the buffer. Where it cannot be read, the message goes to standard error.
-fn load(file: &[u8], message: &[u8], buffer: &mut [u8]) -> Loaded
-    ensures { λ r. ⌜ Counts (r .len) (now (buffer .exit)) ⌝ }
-{
-    let fd = os::open_read(file);
-    if fd < 0 {
-        os::fail(message);
-        return Loaded {
-            len: 0,
-            is_read: false,
-        };
-    }
-    let len = io::read_full(fd, buffer);
-    let mut is_read = true;
-    if len < buffer.len() {
-        if !is_ended(fd) {
-            os::fail(message);
-            is_read = false;
-        }
-    }
-    libc::close(fd);
-    Loaded { len, is_read }
-}
-
 fn main() {
     let mut set = io::large_buffer();
-    let s = load(b"set", b"resolve: cannot read the file set", &mut set);
+    let s = files::load(b"set", b"resolve: cannot read the file set", &mut set);
     if !s.is_read {
         return;
     }
     let mut request = io::large_buffer();
-    let q = load(
+    let q = files::load(
         b"request",
         b"resolve: cannot read the file request",
         &mut request,

@@ -32,7 +32,7 @@ use Rattle.resolution.proofs.Find.{has-find, unique-of}
 use Rattle.resolution.proofs.Lists.{any-out, by, map-out, true≠false}
 use Rattle.resolution.proofs.Positions.{at-mem, index-at, has-at}
 use Rattle.resolution.proofs.Sets.{set-length}
-use Rattle.resolution.proofs.configure.Words.{words-are, edges-are}
+use Rattle.resolution.proofs.Words.{words-are, edges-are}
 use Rattle.resolution.proofs.resolver.Ends.{one-of-end}
 
 -- ---- the permitted positions

@@ -12,18 +12,9 @@ use Rattle.records.specs.Bytes.{sameBytes}
 use Rattle.records.specs.Name.{javaBase, allUnnamed, memName, nameOf, isNameVersion}
 use Rattle.records.specs.Record.{bodies, isBody, isRequires}
 use Rattle.records.specs.Descriptor.{Requirement, Descriptor, requirementOf, descriptorOf}
-use Rattle.records.specs.Request.{Read, Request, requestOf, hasRead, checkRecords, checkInputs, thenRequest}
-use Rattle.records.specs.Set.{checkSet, blocks, blockAt, modules, distinct, pickChecked, refused}
-use Rattle.records.specs.declared.error.Input.the-variants as Input
-use Rattle.records.specs.declared.error.ModuleError.{ModuleError}
-use Rattle.records.specs.declared.error.ModuleError.the-variants.{TooLarge}
-use Rattle.records.specs.declared.request.RecordsAnswer.{RecordsAnswer}
-use Rattle.records.specs.declared.request.RecordsAnswer.the-variants.{Good}
-use Rattle.records.specs.declared.request.RecordsAnswer.the-variants as Records
-use Rattle.records.specs.declared.set.Checked.{Checked}
-use Rattle.records.specs.declared.set.SetAnswer.{SetAnswer}
+use Rattle.records.specs.Request.{Read, Request, requestOf, hasRead}
+use Rattle.records.specs.Set.{checkSet, blocks, blockAt, modules, distinct}
 use Rattle.records.specs.declared.set.SetAnswer.the-variants.{Modules}
-use Rattle.records.specs.declared.set.SetAnswer.the-variants as Set
 use Rattle.records.specs.declared.record.Kind.the-variants as Kind
 use Rattle.records.proofs.bytes.Laws.{same-eq, same-refl}
 use Rattle.records.proofs.set.Blocks.{GoodSet, good-set}
@@ -294,24 +285,3 @@ module _ (s : List ℕ) (n : ℕ) (t : List ℕ) (e : checkSet s ≡ record { an
         own ms h i y =
             subst (λ (l : List Name). MemberReads l ws g (moduleAt (modules s) i) i (λ j. edge rows i j)) (good .names)
             (subst (λ (m : Descriptor). MemberReads (tableNames s t n) ws g m i (λ j. edge rows i j)) (block-of ms h i y) (hr .each i .member y))
-
--- what the check of a set and a request shows of the set, as `read_edges` asks for it
-pub inputs-taken : (s q : List ℕ) (n : ℕ) (c : Checked) → c ≡ checkInputs s q → c .answer ≡ Modules n → checkSet s ≡ record { answer = Modules n; starts = c .starts }
-unfolding checkInputs thenRequest refused
-inputs-taken s q n c e a = long (ltb 65535 (length s) || ltb 65535 (length q)) e
-  where
-    same : c ≡ checkSet s → checkSet s ≡ record { answer = Modules n; starts = c .starts }
-    same k = sym k ∙ ap (λ (x : SetAnswer). record { answer = x; starts = c .starts }) a
-
-    no : (x : ModuleError) → c .answer ≡ Set.Refused x → ⊥
-    no x k = let z : _≡_ {A = ℕ} 0 1 = cc in omega arith
-
-    taken : (x : SetAnswer) (y : RecordsAnswer) → checkSet s .answer ≡ x → c ≡ thenRequest (checkSet s) x y → checkSet s ≡ record { answer = Modules n; starts = c .starts }
-    taken (Set.Refused x) y f k = same k
-    taken (Modules x) Good f k = same k
-    taken (Modules x) (Records.Refused y) f k = absurd (no y (ap (λ (z : Checked). z .answer) k))
-
-    long : (b : Bool) → c ≡ pickChecked b (refused (TooLarge 0)) (thenRequest (checkSet s) (checkSet s .answer) (checkRecords Input.Request q))
-        → checkSet s ≡ record { answer = Modules n; starts = c .starts }
-    long true k = absurd (no (TooLarge 0) (ap (λ (z : Checked). z .answer) k))
-    long false k = taken (checkSet s .answer) (checkRecords Input.Request q) refl k

@@ -25,9 +25,9 @@ use Rattle.resolution.specs.declared.resolve.Resolution as Declared
 use Rattle.resolution.specs.declared.resolver.Halt.{Halt}
 use Rattle.resolution.specs.declared.resolver.Halt.the-variants as Halt
 use Rattle.resolution.specs.declared.resolver.Queue.{Queue}
-use Rattle.resolution.proofs.ResolverRun.{Answer, refusedWith, positions, answerOn, answerAt}
+use Rattle.resolution.proofs.ResolverRun.{refusedWith, positions, answerOn, answerAt}
 use Rattle.resolution.proofs.ResolverWhole.{answerOf, Accepts, resolver-is, resolver-accepts}
-use Rattle.resolution.proofs.readability.Answers.{inputs-taken}
+use Rattle.records.proofs.request.Taken.{inputs-taken}
 
 -- ---- a set and a request that the check takes
 

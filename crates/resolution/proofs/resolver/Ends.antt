@@ -1,23 +1,23 @@
 -- A position comes to the end of the array, which has room for it.
-use Prim.Native.Nat.{ℕ, zero, suc, _+_, _≤_, _<_}
-use mathlib.Core.Path.{_≡_, refl, sym, _∙_, ap, subst}
+use Prim.Native.Nat.{ℕ, suc, _+_, _<_}
+use mathlib.Core.Path.{_≡_, refl, sym, _∙_}
 use mathlib.Core.Bool.{Bool, true, false, not, _||_, or-false}
 use mathlib.Core.List.{List, [], _∷_, _++_}
 use native.Mathlib.Omega.{arith}
 use lib.Dec.{eqb}
-use lib.ListN.{length, getD, take, set, length-set}
+use lib.ListN.{length, take, set, length-set}
 use lib.Seq.{take-suc-set}
-use borrow.Author.Tests.{eq-eqb, not-true, not-false}
+use borrow.Author.Tests.{eq-eqb}
 use Rattle.records.specs.declared.error.ModuleError.{ModuleError}
 use Rattle.resolution.specs.Lists.{any}
 use Rattle.resolution.specs.Row.{countBelow}
-use Rattle.resolution.specs.Resolver.{Line, lineAt, isOneOf, queuedAt, queuedOn, queued, Ready, Within, Moved}
+use Rattle.resolution.specs.Resolver.{lineAt, isOneOf, queuedAt, queuedOn, queued, Ready, Within, Moved}
 use Rattle.resolution.specs.declared.resolver.Halt.{Halt}
 use Rattle.resolution.specs.declared.resolver.Halt.the-variants as Halt
 use Rattle.resolution.specs.declared.resolver.Queue.{Queue}
 use Rattle.resolution.specs.declared.resolver.Wanted.{Wanted}
 use Rattle.resolution.specs.declared.resolver.Wanted.the-variants.{Pass, Add, Stop, Refuse}
-use Rattle.resolution.proofs.row.Counts.{count-strict, count-mono}
+use Rattle.resolution.proofs.row.Counts.{count-strict}
 
 -- ---- one position more
 

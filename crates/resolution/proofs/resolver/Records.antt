@@ -1,5 +1,5 @@
 -- The names that the records of one kind queue, one record after the other.
-use Prim.Native.Nat.{ℕ, zero, suc, _+_, _-_, _≤_, _<_}
+use Prim.Native.Nat.{ℕ, suc, _+_, _-_, _≤_, _<_}
 use mathlib.Core.Path.{_≡_, refl, sym, _∙_, ap}
 use mathlib.Core.Bool.{Bool, true, false}
 use mathlib.Core.List.{List, [], _∷_}
@@ -17,7 +17,7 @@ use Rattle.records.specs.declared.record.Next.the-variants.{Body, Nothing}
 use Rattle.records.proofs.Logic.{clash}
 use Rattle.records.proofs.record.Laws.{records-cons, records-none, records-end, records-ind, body-front}
 use Rattle.records.proofs.record.Bodies.{next-less, body-room}
-use Rattle.resolution.specs.Resolver.{Inputs, wantRecord, kindFor, Line, pickLine, lineAt, queued, queueIn, Ready, Within, Moved}
+use Rattle.resolution.specs.Resolver.{Inputs, wantRecord, kindFor, Line, pickLine, lineAt, queued, queueIn, Ready, Moved}
 use Rattle.resolution.specs.declared.resolver.Queue.{Queue}
 use Rattle.resolution.specs.declared.resolver.Wanted.{Wanted}
 

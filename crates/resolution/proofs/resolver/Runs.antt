@@ -1,25 +1,24 @@
 -- The queue until none waits, turn by turn.
 use Prim.Native.Nat.{ℕ, zero, suc, _+_, _-_, _≤_, _<_}
-use mathlib.Core.Path.{_≡_, refl, sym, _∙_, ap, subst}
+use mathlib.Core.Path.{_≡_, refl, sym, _∙_, ap}
 use mathlib.Core.Bool.{Bool, true, false, not, _&&_}
 use mathlib.Core.List.{List}
 use native.Mathlib.Omega.{arith}
 use lib.Dec.{eqb}
 use lib.ListN.{length, getD, take}
 use lib.Seq.{length-take-le}
-use borrow.Author.Tests.{eqb-true, eqb-false, not-true, not-false}
+use borrow.Author.Tests.{eqb-false, not-true}
 use Rattle.records.specs.Record.{records}
 use Rattle.records.specs.declared.error.Input.the-variants as Input
-use Rattle.records.specs.declared.error.ModuleError.{ModuleError}
 use Rattle.records.proofs.Logic.{clash, and-left, and-right}
 use Rattle.resolution.specs.Row.{one}
-use Rattle.resolution.specs.Resolver.{Inputs, inputsOf, startOf, blockOf, Line, lineAt, pickLine, Ready, splitAt, advancedAt, handledAt, handleAt, isOpen, goesOn, runAt}
+use Rattle.resolution.specs.Resolver.{Inputs, inputsOf, startOf, blockOf, Line, lineAt, Ready, splitAt, advancedAt, handledAt, handleAt, isOpen, goesOn, runAt}
 use Rattle.resolution.specs.Runs.{Running, Ran}
 use Rattle.resolution.specs.declared.resolver.Halt.{Halt}
 use Rattle.resolution.specs.declared.resolver.Halt.the-variants as Halt
 use Rattle.resolution.specs.declared.resolver.Phase.{Phase}
 use Rattle.resolution.specs.declared.resolver.Queue.{Queue}
-use Rattle.resolution.proofs.resolver.Turns.{Longer, longer-records, tail-few, tail-long}
+use Rattle.resolution.proofs.resolver.Turns.{longer-records, tail-few, tail-long}
 
 -- a line that does not go on stays, whatever the fuel
 pub run-ended : (w : Inputs) (f : ℕ) (l : Line) → goesOn l ≡ false → runAt w f l ≡ l

@@ -6,8 +6,7 @@ use mathlib.Core.List.{List, [], _∷_, _++_, map}
 use native.Mathlib.Omega.{arith}
 use lib.Dec.{eqb}
 use lib.ListN.{length, getD, take, drop, length-append}
-use lib.Seq.{take-nil, take-take, take-suc, getD-take, length-take-le, take-append-le}
-use borrow.Author.Tests.{eqb-true, eqb-false, eq-eqb, ne-eqb}
+use lib.Seq.{take-nil, take-take, getD-take, length-take-le, take-append-le}
 use Rattle.records.specs.Name.{nameOf}
 use Rattle.records.specs.Record.{records, bodies, bodyOf, isOf}
 use Rattle.records.specs.Set.{blockAt}
@@ -15,9 +14,7 @@ use Rattle.records.specs.declared.error.Input.{Input}
 use Rattle.records.specs.declared.error.Input.the-variants as Input
 use Rattle.records.specs.declared.error.ModuleError.{ModuleError}
 use Rattle.records.specs.declared.record.Kind.the-variants as Kind
-use Rattle.records.proofs.Logic.{clash, and-left, and-right}
-use Rattle.resolution.specs.Row.{one}
-use Rattle.resolution.specs.Resolver.{Inputs, inputsOf, startOf, blockOf, namesOf, hasNamed, wantRecord, kindFor, Line, lineAt, isOneOf, pickLine, queuedAt, queuedOn, queued, queueIn, Ready, Moved, splitOf, splitAt, ownerAt, advancedAt, handledAt, handleAt, isOpen, goesOn, runAt}
+use Rattle.resolution.specs.Resolver.{Inputs, inputsOf, startOf, blockOf, wantRecord, kindFor, Line, lineAt, isOneOf, pickLine, queuedAt, queuedOn, queued, queueIn, Ready, Moved, splitAt, advancedAt, handledAt, handleAt, isOpen}
 use Rattle.resolution.specs.Filter.{MarkedAll, Covers, asked}
 use Rattle.resolution.specs.Runs.{Running, Ran}
 use Rattle.resolution.specs.declared.resolver.Halt.{Halt}

@@ -1,6 +1,6 @@
 -- The queue of the roots, and the whole.
-use Prim.Native.Nat.{ℕ, zero, suc, _+_, _-_, _≤_, _<_}
-use mathlib.Core.Path.{_≡_, refl, sym, _∙_, ap, subst}
+use Prim.Native.Nat.{ℕ, suc, _-_, _≤_}
+use mathlib.Core.Path.{_≡_, refl, sym, _∙_, ap}
 use mathlib.Core.Bool.{Bool, true, false, not}
 use mathlib.Core.List.{List, [], map}
 use native.Mathlib.Omega.{arith}
@@ -11,7 +11,6 @@ use Rattle.records.specs.Request.{requestOf}
 use Rattle.records.specs.declared.error.Input.the-variants as Input
 use Rattle.records.specs.declared.error.ModuleError.the-variants.{JavaBaseNotFound}
 use Rattle.records.specs.declared.record.Kind.the-variants as Kind
-use Rattle.resolution.specs.Row.{countBelow}
 use Rattle.resolution.specs.Resolver.{Inputs, inputsOf, want, Line, lineAt, isOneOf, pickLine, queued, queueIn, runAt, roundsAt, frontAt, rootsAt, firstAt, thenRounds, startOn, resolveAt, Ready, Fresh, Moved}
 use Rattle.resolution.specs.Filter.{asked}
 use Rattle.resolution.specs.Runs.{Running, Ran, Between}

@@ -7,23 +7,23 @@ use native.Mathlib.Omega.{arith}
 use lib.Dec.{eqb}
 use lib.ListN.{length, getD, take, length-append}
 use lib.Seq.{length-take-le}
-use borrow.Author.Tests.{eqb-true, eqb-false, eq-eqb, ne-eqb, not-true, not-false}
+use borrow.Author.Tests.{eqb-true, eqb-false, eq-eqb}
 use Rattle.records.specs.Name.{nameOf}
 use Rattle.records.specs.Record.{records, bodies}
 use Rattle.records.specs.Set.{blockAt}
 use Rattle.records.specs.declared.error.Input.the-variants as Input
 use Rattle.records.specs.declared.error.ModuleError.{ModuleError}
 use Rattle.records.specs.declared.record.Kind.the-variants as Kind
-use Rattle.records.proofs.Logic.{clash, and-left, and-right}
+use Rattle.records.proofs.Logic.{clash}
 use Rattle.resolution.specs.Row.{one}
-use Rattle.resolution.specs.Resolver.{Inputs, inputsOf, startOf, blockOf, Line, lineAt, pickLine, Ready, Moved, splitAt, advancedAt, handledAt, handleAt, isOpen, goesOn, runAt, provideFrom, provideAt, isDone, roundAt, roundsAt}
-use Rattle.resolution.specs.Filter.{MarkedAll, Covers, asked}
+use Rattle.resolution.specs.Resolver.{Inputs, inputsOf, startOf, blockOf, Line, lineAt, pickLine, Ready, Moved, splitAt, advancedAt, handledAt, handleAt, isOpen, goesOn, runAt, provideAt, isDone, roundAt, roundsAt}
+use Rattle.resolution.specs.Filter.{MarkedAll}
 use Rattle.resolution.specs.Runs.{Running, Ran, Used, Between, Rounded}
 use Rattle.resolution.specs.declared.resolver.Halt.{Halt}
 use Rattle.resolution.specs.declared.resolver.Halt.the-variants as Halt
 use Rattle.resolution.specs.declared.resolver.Phase.{Phase}
 use Rattle.resolution.specs.declared.resolver.Queue.{Queue}
-use Rattle.resolution.proofs.filter.Covers.{covers-none, covers-next}
+use Rattle.resolution.proofs.filter.Covers.{covers-next}
 use Rattle.resolution.proofs.resolver.Turns.{append-nil, Grown, Longer, grown-same, grown-then, longer-records, front-same, tail-grows, tail-few, tail-long}
 use Rattle.resolution.proofs.resolver.Runs.{not-back, run-ended}
 use Rattle.resolution.proofs.rounds.Providers.{longer-provided, halt-provided, provide-same}

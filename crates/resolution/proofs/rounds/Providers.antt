@@ -1,12 +1,11 @@
 -- The providers of a round, one module of the set after the other.
 use Prim.Native.Nat.{ℕ, zero, suc, _+_, _-_, _≤_, _<_}
 use mathlib.Core.Path.{_≡_, refl, sym, _∙_, ap, subst}
-use mathlib.Core.Bool.{Bool, true, false, not, _&&_}
+use mathlib.Core.Bool.{Bool, true, false}
 use mathlib.Core.List.{List, []}
 use native.Mathlib.Omega.{arith}
-use lib.ListN.{length, getD, take}
+use lib.ListN.{length, take}
 use lib.Seq.{take-take}
-use borrow.Author.Tests.{not-true, not-false}
 use Rattle.records.specs.declared.record.Kind.the-variants as Kind
 use Rattle.resolution.specs.Lists.{any}
 use Rattle.resolution.specs.Row.{holds}

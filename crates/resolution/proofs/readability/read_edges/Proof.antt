@@ -7,10 +7,10 @@ pub read-edges-spec : {M : Type 1} → statement M
 read-edges-spec =
     tie.close
     (tie.spec
-    (λ c. search (read-edges-are, needs))
-    (λ c κs. search (read-edges-are, needs))
-    (λ c. search (read-edges-are, needs))
-    (λ c κs. search (read-edges-are, needs))
-    (λ c κs. search (read-edges-are, needs))
-    (λ c. search (read-edges-are, needs))
+    (λ c. search needs)
+    (λ c κs. search needs)
+    (λ c. search needs)
+    (λ c κs. search needs)
+    (λ c κs. search needs)
+    (λ c. search needs)
     (λ c. search (read-edges-are, needs)))

@@ -7,8 +7,8 @@ pub all-rounds-spec : {M : Type 1} → statement M
 all-rounds-spec =
     tie.close
     (tie.spec
-    (λ c. search (uses-fresh, needs))
+    (λ c. search needs)
     (λ c κs. search (uses-fresh, needs))
-    (λ c. search (uses-fresh, needs))
-    (λ c. search (uses-fresh, needs))
-    (λ c. search (uses-fresh, needs)))
+    (λ c. search needs)
+    (λ c. search needs)
+    (λ c. search needs))

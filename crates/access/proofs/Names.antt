@@ -1,0 +1,218 @@
+-- An accepted pair of a set and a request: what the words of its configuration say, told by names of the modules resolved.
+use mathlib.Core.Path.{_≡_, refl, sym, ap, _∙_, subst}
+use Prim.Native.Nat.{ℕ, _+_, _*_, _/_, _%_, _≤_, _<_}
+use native.Mathlib.Omega.{arith}
+use mathlib.Core.Bool.{Bool, true, false, _&&_, _||_}
+use mathlib.Core.Option.{Option, none, some}
+use mathlib.Core.List.{List}
+use lib.ListN.{length}
+use borrow.Author.Tests.{lt-ltb}
+use Rattle.records.specs.Bytes.{sameBytes}
+use Rattle.records.specs.Descriptor.{Descriptor}
+use Rattle.records.specs.Finder.{findModule}
+use Rattle.records.specs.Name.{allUnnamed}
+use Rattle.records.specs.Request.{Request, requestOf, checkInputs}
+use Rattle.records.specs.Set.{modules}
+use Rattle.records.specs.declared.finder.Found.{Found}
+use Rattle.records.specs.declared.finder.Found.the-variants.{At, Nothing}
+use Rattle.records.specs.declared.set.SetAnswer.{SetAnswer}
+use Rattle.records.specs.declared.set.SetAnswer.the-variants as Set
+use Rattle.records.proofs.Logic.{clash}
+use Rattle.records.proofs.bytes.Laws.{same-eq}
+use Rattle.records.proofs.set.Blocks.{GoodSet, good-set}
+use Rattle.resolution.specs.Closed.{Accepted}
+use Rattle.resolution.specs.Graph.{edge}
+use Rattle.resolution.specs.Lists.{Name}
+use Rattle.resolution.specs.Loop.{Result, failed, done}
+use Rattle.resolution.specs.Positions.{moduleAt}
+use Rattle.resolution.specs.Reads.{reads, readsFrom}
+use Rattle.resolution.specs.Resolution.{find, hasModule, Refusal, State}
+use Rattle.resolution.specs.Resolution as Resolution
+use Rattle.resolution.specs.Resolve.{memberAt, edgeAt, unnamedAt, configurationOf, refused, told, answered, resolve}
+use Rattle.resolution.specs.Row.{holds}
+use Rattle.resolution.specs.declared.configuration.Configuration.{Configuration}
+use Rattle.resolution.specs.declared.resolve.Outcome.the-variants as Outcome
+use Rattle.resolution.proofs.Find.{find-mem, has-find, has-names, has-some}
+use Rattle.resolution.proofs.Lists.{by, true≠false}
+use Rattle.resolution.proofs.Positions.{Located, find-none}
+use Rattle.resolution.proofs.Sets.{set-length, set-accepted, set-located, set-not-located}
+use Rattle.resolution.proofs.WordBits.{holds-words}
+use Rattle.resolution.proofs.resolve.Laws.{resolve-set}
+use Rattle.access.specs.Access.{heldAt, edgeTo, edgeFrom, isMember, readsName, resolvedModule}
+use Rattle.access.specs.Demand3.{IsAccepted, configuration}
+
+-- ---- an accepted pair
+
+-- the inputs are taken, and resolution is done
+pub record Done (s q : List ℕ) : Type 0 where
+  pub count : ℕ
+  pub state : State
+  pub taken : checkInputs s q .answer ≡ Set.Modules count
+  pub finished : Resolution.resolve (modules s) (requestOf q) ≡ done state
+
+told-out : (s q : List ℕ) (n : ℕ) (r : Result State Refusal) → checkInputs s q .answer ≡ Set.Modules n → Resolution.resolve (modules s) (requestOf q) ≡ r
+    → told s q r .outcome ≡ Outcome.Accepted → Done s q
+unfolding told refused
+told-out s q n (failed x) c e h = clash (cc)
+told-out s q n (done st) c e h = record { count = n; state = st; taken = c; finished = e }
+
+answered-out : (s q : List ℕ) (a : SetAnswer) → checkInputs s q .answer ≡ a → answered s q a .outcome ≡ Outcome.Accepted → Done s q
+unfolding answered refused
+answered-out s q (Set.Refused x) c h = clash (cc)
+answered-out s q (Set.Modules n) c h = told-out s q n (Resolution.resolve (modules s) (requestOf q)) c refl h
+
+pub accepted-out : (s q : List ℕ) → IsAccepted s q → Done s q
+unfolding resolve
+accepted-out s q h = answered-out s q (checkInputs s q .answer) refl h
+
+-- its configuration is that of the modules resolved
+pub configuration-is : (s q : List ℕ) (d : Done s q) → configuration s q ≡ configurationOf (modules s) (requestOf q) (d .state .resolved)
+unfolding resolve answered told
+configuration-is s q d =
+    ap (λ (a : SetAnswer). answered s q a .configuration) (d .taken) ∙ ap (λ (r : Result State Refusal). told s q r .configuration) (d .finished)
+
+-- ---- the words, by positions
+
+-- row i has bits 256 i to 256 i + 255
+row-bit : (g : List ℕ) (i j : ℕ) → j < 256 → edge g i j ≡ holds g (i * 256 + j)
+unfolding edge holds
+row-bit g i j l =
+    let a : (i * 256 + j) / 64 ≡ i * 4 + j / 64 = omega arith in
+    let b : (i * 256 + j) % 64 ≡ j % 64 = omega arith in
+    rw (lt-ltb j 256 l, a, b)
+
+module _ (S : List Descriptor) (long : length S ≤ 256) (rq : Request) (R : List Descriptor) where
+  member-at : (i : ℕ) → i < length S → holds (configurationOf S rq R .members) i ≡ hasModule R (moduleAt S i .name)
+  unfolding configurationOf memberAt
+  member-at i l = holds-words (memberAt S R) 4 i (omega arith) ∙ rw (lt-ltb i (length S) l)
+
+  unnamed-at : (i : ℕ) → i < length S → holds (configurationOf S rq R .unnamed) i ≡ reads R rq (moduleAt S i .name) allUnnamed
+  unfolding configurationOf unnamedAt
+  unnamed-at i l = holds-words (unnamedAt S rq R) 4 i (omega arith) ∙ rw (lt-ltb i (length S) l)
+
+  edge-at : (i j : ℕ) → i < length S → j < length S → edge (configurationOf S rq R .reads) i j ≡ reads R rq (moduleAt S i .name) (moduleAt S j .name)
+  unfolding configurationOf edgeAt
+  edge-at i j l m =
+      let a : (i * 256 + j) / 256 ≡ i = omega arith in
+      let b : (i * 256 + j) % 256 ≡ j = omega arith in
+      row-bit (configurationOf S rq R .reads) i j (omega arith)
+      ∙ holds-words (λ (k : ℕ). edgeAt S rq R (k / 256) (k % 256)) 1024 (i * 256 + j) (omega arith)
+      ∙ rw (a, b, lt-ltb i (length S) l, lt-ltb j (length S) m)
+
+or-false : (b : Bool) → b || false ≡ b
+or-false true = refl
+or-false false = refl
+
+-- ---- reads of the modules resolved
+
+-- a module that is not resolved reads nothing
+reads-source : (R : List Descriptor) (rq : Request) (x y : Name) → hasModule R x ≡ false → reads R rq x y ≡ false
+unfolding reads readsFrom
+reads-source R rq x y h = ap (readsFrom R rq x y) (find-none x R h)
+
+-- a name that is neither resolved nor ALL-UNNAMED is not read
+reads-target : (R : List Descriptor) (rq : Request) (x y : Name) → hasModule R y ≡ false → sameBytes y allUnnamed ≡ false → reads R rq x y ≡ false
+unfolding reads readsFrom
+reads-target R rq x y h k = turned (find x R)
+  where
+    turned : (o : Option Descriptor) → readsFrom R rq x y o ≡ false
+    turned none = refl
+    turned (some m) = rw (h, k)
+
+-- ---- the words, by names
+
+-- what the configuration of the modules resolved says
+pub record ByNames (s : List ℕ) (rq : Request) (c : Configuration) (R : List Descriptor) : Type 0 where
+  pub member : (n : Name) → isMember s c n ≡ hasModule R n
+  pub read : (x y : Name) → readsName s c x y ≡ reads R rq x y
+  pub module-of : (n : Name) → resolvedModule s c n ≡ find n R
+
+module _ (s : List ℕ) (n : ℕ) (t : List ℕ) (g : GoodSet s n t) (rq : Request) (R : List Descriptor) (a : Accepted (modules s) rq R) where
+  abbrev S : List Descriptor
+  S = modules s
+
+  abbrev c : Configuration
+  c = configurationOf (modules s) rq R
+
+  long : length S ≤ 256
+  long = omega (arith, set-length s n t g, g .few)
+
+  name-at : (x : Name) (i : ℕ) → Located x S i → moduleAt S i .name ≡ x
+  name-at x i o = find-mem x S (moduleAt S i) (o .is) .1
+
+  -- a module resolved is one of the set
+  found-in : (x : Name) (m : Descriptor) → find x R ≡ some m → find x S ≡ some m
+  found-in x m e = let r = find-mem x R m e in subst (λ (z : Name). find z S ≡ some m) (r .1) (a .sound m (r .0))
+
+  not-in : (x : Name) → hasModule S x ≡ false → hasModule R x ≡ false
+  not-in x h = by (hasModule R x) (λ y. let r = has-some x R y in true≠false (has-find x S (r .0) (found-in x (r .0) (r .1))) h) (λ y. y)
+
+  -- no module of the set is ALL-UNNAMED
+  named : (y : Name) → hasModule S y ≡ true → sameBytes y allUnnamed ≡ false
+  named y h = by (sameBytes y allUnnamed)
+      (λ k. true≠false (subst (λ (z : Name). hasModule S z ≡ true) (same-eq y allUnnamed k) h) (has-names S allUnnamed ∙ g .named))
+      (λ k. k)
+
+  members-named : (x : Name) → isMember s c x ≡ hasModule R x
+  unfolding isMember heldAt
+  members-named x = turned (findModule s x) refl
+    where
+      turned : (f : Found) → findModule s x ≡ f → heldAt (c .members) f ≡ hasModule R x
+      turned (At i) e =
+          let o = set-located s x i e in
+          member-at S long rq R i (o .within) ∙ ap (hasModule R) (name-at x i o)
+      turned Nothing e = sym (not-in x (set-not-located s x e .0))
+
+  -- a read edge, where the source is a module of the set
+  edges-named : (x y : Name) (i : ℕ) → Located x S i → (f : Found) → findModule s y ≡ f → edgeFrom c (At i) f (sameBytes y allUnnamed) ≡ reads R rq x y
+  unfolding edgeFrom edgeTo
+  edges-named x y i o (At j) e =
+      let k = set-located s y j e in
+      let u : edge (c .reads) i j ≡ reads R rq x y
+      = edge-at S long rq R i j (o .within) (k .within) ∙ rw (name-at x i o, name-at y j k) in
+      rw (named y (k .observable), u) (or-false (reads R rq x y))
+  edges-named x y i o Nothing e = by (sameBytes y allUnnamed)
+      (λ k.
+      let u : holds (c .unnamed) i ≡ reads R rq x y
+      = unnamed-at S long rq R i (o .within) ∙ rw (name-at x i o, same-eq y allUnnamed k) in
+      rw (k, u))
+      (λ k. rw (k, reads-target R rq x y (not-in y (set-not-located s y e .0)) k))
+
+  -- so the test that the source is a member changes nothing
+  source-counts : (x y : Name) (b : Bool) → hasModule R x ≡ b → b && reads R rq x y ≡ reads R rq x y
+  source-counts x y true e = refl
+  source-counts x y false e = sym (reads-source R rq x y e)
+
+  reads-named : (x y : Name) → readsName s c x y ≡ reads R rq x y
+  unfolding readsName
+  reads-named x y = rw (members-named x) (turned (findModule s x) refl)
+    where
+      turned : (f : Found) → findModule s x ≡ f → hasModule R x && edgeFrom c f (findModule s y) (sameBytes y allUnnamed) ≡ reads R rq x y
+      turned (At i) e =
+          ap (λ (b : Bool). hasModule R x && b) (edges-named x y i (set-located s x i e) (findModule s y) refl)
+          ∙ source-counts x y (hasModule R x) refl
+      turned Nothing e =
+          let h : hasModule R x ≡ false = not-in x (set-not-located s x e .0) in
+          rw (h, reads-source R rq x y h)
+
+  module-named : (x : Name) → resolvedModule s c x ≡ find x R
+  unfolding resolvedModule
+  module-named x = rw (members-named x) (by (hasModule R x)
+      (λ h. let r = has-some x R h in rw (h, r .1, found-in x (r .0) (r .1)))
+      (λ h. rw (h, find-none x R h)))
+
+  pub by-names : ByNames s rq c R
+  by-names = record { member = members-named; read = reads-named; module-of = module-named }
+
+-- ---- over bytes
+
+module _ (s q : List ℕ) (d : Done s q) where
+  pub done-good : GoodSet s (d .count) (checkInputs s q .starts)
+  done-good = good-set s (d .count) (checkInputs s q .starts) (resolve-set s q (checkInputs s q) refl (d .count) (d .taken))
+
+  pub done-accepted : Accepted (modules s) (requestOf q) (d .state .resolved)
+  done-accepted = set-accepted s (d .count) (checkInputs s q .starts) done-good (requestOf q) (d .state) (d .finished)
+
+  pub done-named : ByNames s (requestOf q) (configuration s q) (d .state .resolved)
+  done-named = subst (λ (c : Configuration). ByNames s (requestOf q) c (d .state .resolved)) (sym (configuration-is s q d))
+      (by-names s (d .count) (checkInputs s q .starts) done-good (requestOf q) (d .state .resolved) done-accepted)

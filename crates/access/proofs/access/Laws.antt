@@ -1,0 +1,335 @@
+-- What each return of the questions shows.
+use Prim.Native.Nat.{ℕ}
+use mathlib.Core.Path.{_≡_, refl, sym, ap, _∙_}
+use mathlib.Core.Bool.{Bool, true, false, _&&_, _||_, or-false, or-true}
+use mathlib.Core.Option.{Option, some}
+use mathlib.Core.List.{List, map}
+use lib.ListN.{take}
+use native.Mathlib.Omega.{arith}
+use Rattle.records.specs.Bytes.{sameBytes}
+use Rattle.records.specs.Name.{javaBase, allUnnamed, memName}
+use Rattle.records.specs.Record.{bodies}
+use Rattle.records.specs.Descriptor.{Descriptor, descriptorOf, entryOf, reaches}
+use Rattle.records.specs.Request.{Request, requestOf, grantOf, hasGrant, checkInputs}
+use Rattle.records.specs.Set.{nameAt, blockAt, modules, checkSet}
+use Rattle.records.specs.Finder.{findName, findModule}
+use Rattle.records.specs.declared.error.ModuleError.{ModuleError}
+use Rattle.records.specs.declared.finder.Found.{Found}
+use Rattle.records.specs.declared.finder.Found.the-variants.{At, Nothing}
+use Rattle.records.specs.declared.record.Kind.the-variants as Kind
+use Rattle.records.specs.declared.set.Checked.{Checked}
+use Rattle.records.specs.declared.set.SetAnswer.{SetAnswer}
+use Rattle.records.specs.declared.set.SetAnswer.the-variants.{Modules}
+use Rattle.records.specs.declared.set.SetAnswer.the-variants as Set
+use Rattle.records.proofs.finder.Modules.{find-is}
+use Rattle.records.proofs.set.Blocks.{GoodSet, good-set}
+use Rattle.resolution.specs.Lists.{Name}
+use Rattle.resolution.specs.Row.{holds}
+use Rattle.resolution.specs.Graph.{Successors}
+use Rattle.resolution.specs.Positions.{moduleAt}
+use Rattle.resolution.specs.declared.configuration.Configuration.{Configuration}
+use Rattle.resolution.proofs.Lists.{by}
+use Rattle.resolution.proofs.Positions.{Located}
+use Rattle.resolution.proofs.Sets.{set-length, set-located, module-block}
+use Rattle.records.proofs.request.Taken.{inputs-taken}
+use Rattle.access.specs.Access.{heldAt, edgeTo, edgeFrom, isMember, readsName, resolvedModule, entriesOf, grantsOf, denied, pickResult, grants, granted, namedVerdict, unnamedGranted, unnamedVerdict, verdict, answered, checkAccess}
+use Rattle.access.specs.Members.{amongMembers, memberIn, moduleOf, verdictBy}
+use Rattle.access.specs.CanRead.{readAnswered, canRead}
+use Rattle.access.specs.declared.access.AccessCheckResult.{AccessCheckResult}
+use Rattle.access.specs.declared.access.AccessCheckResult.the-variants.{Allowed, NotReadable, NotExported, NotOpened}
+use Rattle.access.specs.declared.access.AccessAnswer.the-variants.{Verdict, Refused}
+use Rattle.access.specs.declared.access.ReadAnswer.the-variants as Read
+
+-- ---- the member of a name
+
+module _ (s : List ℕ) (n : ℕ) (t : List ℕ) (k : checkSet s ≡ record { answer = Modules n; starts = t }) (x : Name) (f : Found)
+    (e : f ≡ findName (map (nameAt s) (take n t)) x 0) where
+  found : f ≡ findModule s x
+  found = e ∙ find-is s n t (good-set s n t k) x
+
+  pub member-held : (ws : List ℕ) (i : ℕ) (h : Bool) → f ≡ At i → h ≡ holds ws i → h ≡ true → At i ≡ memberIn s ws x
+  unfolding memberIn amongMembers
+  member-held ws i h ei eh y = sym (ap (amongMembers ws) (sym found ∙ ei) ∙ rw (← eh, y))
+
+  pub member-other : (ws : List ℕ) (i : ℕ) (h : Bool) → f ≡ At i → h ≡ holds ws i → h ≡ false → Nothing ≡ memberIn s ws x
+  unfolding memberIn amongMembers
+  member-other ws i h ei eh y = sym (ap (amongMembers ws) (sym found ∙ ei) ∙ rw (← eh, y))
+
+  pub member-none : (ws : List ℕ) → f ≡ Nothing → Nothing ≡ memberIn s ws x
+  unfolding memberIn amongMembers
+  member-none ws en = sym (ap (amongMembers ws) (sym found ∙ en))
+
+  -- ---- what a row leads to
+
+  module _ (ws : List ℕ) (u a : Bool) (ea : a ≡ sameBytes x allUnnamed && u) (z : a ≡ false) where
+    pub leads-held : (r : Bool) (j : ℕ) → f ≡ At j → r ≡ holds ws j → r ≡ heldAt ws (findModule s x) || (sameBytes x allUnnamed && u)
+    unfolding heldAt
+    leads-held r j ej er = er ∙ sym (or-false (holds ws j)) ∙ sym (rw (← ea, z) (ap (λ (y : Found). heldAt ws y || false) (sym found ∙ ej)))
+
+    pub leads-none : f ≡ Nothing → false ≡ heldAt ws (findModule s x) || (sameBytes x allUnnamed && u)
+    unfolding heldAt
+    leads-none en = sym (rw (← ea, z) (ap (λ (y : Found). heldAt ws y || false) (sym found ∙ en)))
+
+pub leads-unnamed : (b : Bool) (x : Name) (u a : Bool) → a ≡ sameBytes x allUnnamed && u → a ≡ true → true ≡ b || (sameBytes x allUnnamed && u)
+leads-unnamed b x u a ea y = sym (rw (← ea, y) (or-true b))
+
+pub unnamed-yes : (b a u : Bool) → a ≡ b → a ≡ true → u ≡ b && u
+unnamed-yes b a u e y = sym (rw (← e, y))
+
+pub unnamed-no : (b a u : Bool) → a ≡ b → a ≡ false → false ≡ b && u
+unnamed-no b a u e y = sym (rw (← e, y))
+
+pub ruleset is-unnamed-laws = (unnamed-yes, unnamed-no)
+
+pub ruleset member-laws = (member-held, member-other, member-none)
+
+pub ruleset leads-laws = (leads-held, leads-none, leads-unnamed)
+
+-- ---- a read edge
+
+pub held-of : (ws : List ℕ) (f : Found) (i : ℕ) → amongMembers ws f ≡ At i → (f ≡ At i) × (holds ws i ≡ true)
+unfolding amongMembers
+held-of ws (At j) i e = by (holds ws j)
+    (λ y. let q : At j ≡ At i = sym (rw y) ∙ e in let z : j ≡ i = cc in (q, rw (← z) y))
+    (λ y. let q : Nothing ≡ At i = sym (rw y) ∙ e in absurd (let z : _≡_ {A = ℕ} 0 1 = cc in omega arith))
+held-of ws Nothing i e = absurd (let z : _≡_ {A = ℕ} 0 1 = cc in omega arith)
+
+pub not-held : (ws : List ℕ) (f : Found) → amongMembers ws f ≡ Nothing → heldAt ws f ≡ false
+unfolding amongMembers heldAt
+not-held ws (At j) e = by (holds ws j)
+    (λ y. let q : At j ≡ Nothing = sym (rw y) ∙ e in absurd (let z : _≡_ {A = ℕ} 0 1 = cc in omega arith))
+    (λ y. y)
+not-held ws Nothing e = refl
+
+pub not-held-at : (ws : List ℕ) (f : Found) (i : ℕ) → f ≡ At i → amongMembers ws f ≡ Nothing → holds ws i ≡ false
+unfolding heldAt
+not-held-at ws f i e h = sym (rw e) ∙ not-held ws f h
+
+to-row : (g ws : List ℕ) (i : ℕ) (f : Found) → Successors g i ws → heldAt ws f ≡ edgeTo g i f
+unfolding heldAt edgeTo
+to-row g ws i (At j) h = h .each j
+to-row g ws i Nothing h = refl
+
+module _ (s : List ℕ) (c : Configuration) (x y : Name) (m : Found) (em : m ≡ memberIn s (c .members) x) where
+  pub reads-from : (i : ℕ) (last : Bool) (ws : List ℕ) (r : Bool) → m ≡ At i → last ≡ holds (c .unnamed) i → Successors (c .reads) i ws
+      → r ≡ heldAt ws (findModule s y) || (sameBytes y allUnnamed && last) → r ≡ readsName s c x y
+  unfolding readsName isMember edgeFrom memberIn heldAt
+  reads-from i last ws r ei el h er =
+      let p = held-of (c .members) (findModule s x) i (sym em ∙ ei) in
+      er ∙ rw (to-row (c .reads) ws i (findModule s y) h, el) (sym (rw (p .0) (rw (p .1))))
+
+  pub reads-none : m ≡ Nothing → false ≡ readsName s c x y
+  unfolding readsName isMember memberIn
+  reads-none en = sym (rw (not-held (c .members) (findModule s x) (sym em ∙ en)))
+
+pub ruleset reads-laws = (reads-from, reads-none)
+
+-- ---- readable: a read edge or target java.base
+
+module _ (b : Bool) (y : Name) (a : Bool) (ea : a ≡ sameBytes y javaBase) where
+  pub readable-base : a ≡ true → true ≡ b || sameBytes y javaBase
+  readable-base z = sym (rw (← ea, z) (or-true b))
+
+  pub readable-edge : a ≡ false → b ≡ b || sameBytes y javaBase
+  readable-edge z = sym (rw (← ea, z) (or-false b))
+
+pub ruleset readable-laws = (readable-base, readable-edge)
+
+-- ---- what a module grants
+
+module _ (q : List ℕ) (x p y : Name) (f r : Bool) where
+  pub override-opens : f ≡ true → r ≡ hasGrant (map grantOf (bodies Kind.AddOpens q)) x p y → r ≡ hasGrant (grantsOf f (requestOf q)) x p y
+  unfolding grantsOf requestOf
+  override-opens e er = er ∙ sym (rw e)
+
+  pub override-exports : f ≡ false → r ≡ hasGrant (map grantOf (bodies Kind.AddExports q)) x p y → r ≡ hasGrant (grantsOf f (requestOf q)) x p y
+  unfolding grantsOf requestOf
+  override-exports e er = er ∙ sym (rw e)
+
+pub ruleset override-laws = (override-opens, override-exports)
+
+module _ (f a b : Bool) where
+  pub by-automatic : (r : Bool) → r ≡ a → r ≡ true → true ≡ a || (f && b)
+  by-automatic r er y = sym (rw (← er, y))
+
+  pub by-open : (r t : Bool) → r ≡ a → r ≡ false → f ≡ true → t ≡ b → t ≡ a || (f && b)
+  by-open r t er y z et = et ∙ sym (rw (← er, y, z))
+
+  pub by-entries : (r : Bool) → r ≡ a → r ≡ false → f ≡ false → false ≡ a || (f && b)
+  by-entries r er y z = sym (rw (← er, y, z))
+
+pub ruleset by-laws = (by-automatic, by-open, by-entries)
+
+module _ (b : List ℕ) (p y : Name) (f r : Bool) where
+  pub entry-opens : f ≡ true → r ≡ reaches (map entryOf (bodies Kind.Opens b)) p y → r ≡ reaches (entriesOf f (descriptorOf b)) p y
+  unfolding entriesOf descriptorOf
+  entry-opens e er = er ∙ sym (rw e)
+
+  pub entry-exports : f ≡ false → r ≡ reaches (map entryOf (bodies Kind.Exports b)) p y → r ≡ reaches (entriesOf f (descriptorOf b)) p y
+  unfolding entriesOf descriptorOf
+  entry-exports e er = er ∙ sym (rw e)
+
+pub ruleset entry-laws = (entry-opens, entry-exports)
+
+module _ (f : Bool) (m : Descriptor) (p y : Name) (a : Bool) (ea : a ≡ m .isAutomatic || (f && m .isOpen)) where
+  pub grants-packages : (r : Bool) → a ≡ true → r ≡ memName p (m .packages) → r ≡ grants f m p y
+  unfolding grants
+  grants-packages r z er = er ∙ sym (rw (← ea, z))
+
+  pub grants-entries : (r : Bool) → a ≡ false → r ≡ reaches (entriesOf f m) p y → r ≡ grants f m p y
+  unfolding grants
+  grants-entries r z er = er ∙ sym (rw (← ea, z))
+
+pub ruleset grants-laws = (grants-packages, grants-entries)
+
+module _ (s t : List ℕ) (f : Bool) (p y : Name) (x : Found) where
+  pub granted-at : (i : ℕ) (b : List ℕ) (r : Bool) → x ≡ At i → b ≡ blockAt s t i → r ≡ grants f (descriptorOf b) p y → r ≡ granted f (moduleOf s t x) p y
+  unfolding granted moduleOf
+  granted-at i b r e eb er = er ∙ sym (rw (e, ← eb))
+
+  pub granted-none : x ≡ Nothing → false ≡ granted f (moduleOf s t x) p y
+  unfolding granted moduleOf
+  granted-none e = sym (rw e)
+
+pub ruleset granted-laws = (granted-at, granted-none)
+
+module _ (a b r : Bool) (er : r ≡ a) where
+  pub or-first : r ≡ true → true ≡ a || b
+  or-first y = sym (rw (← er, y))
+
+  pub or-second : (t : Bool) → r ≡ false → t ≡ b → t ≡ a || b
+  or-second t y et = et ∙ sym (rw (← er, y))
+
+pub ruleset or-laws = (or-first, or-second)
+
+-- ---- asker ALL-UNNAMED
+
+module _ (f : Bool) (rq : Request) (x p : Name) (m : Descriptor) (a : Bool) (ea : a ≡ m .isAutomatic) where
+  pub block-automatic : (r : Bool) → a ≡ true → r ≡ memName p (m .packages) → r ≡ unnamedGranted f rq x p (some m)
+  unfolding unnamedGranted
+  block-automatic r y er = er ∙ sym (rw (← ea, y))
+
+  pub block-override : (o : Bool) → a ≡ false → o ≡ hasGrant (grantsOf f rq) x p allUnnamed → o ≡ true → true ≡ unnamedGranted f rq x p (some m)
+  unfolding unnamedGranted
+  block-override o y eo z = sym (rw (← ea, y, ← eo, z))
+
+  pub block-own : (o r : Bool) → a ≡ false → o ≡ hasGrant (grantsOf f rq) x p allUnnamed → o ≡ false → r ≡ grants f m p allUnnamed
+      → r ≡ unnamedGranted f rq x p (some m)
+  unfolding unnamedGranted
+  block-own o r y eo z er = er ∙ sym (rw (← ea, y, ← eo, z))
+
+pub ruleset block-laws = (block-automatic, block-override, block-own)
+
+module _ (s t : List ℕ) (f : Bool) (rq : Request) (x p : Name) (m : Found) where
+  pub unnamed-at : (i : ℕ) (b : List ℕ) (r : Bool) → m ≡ At i → b ≡ blockAt s t i → r ≡ unnamedGranted f rq x p (some (descriptorOf b))
+      → r ≡ unnamedGranted f rq x p (moduleOf s t m)
+  unfolding moduleOf
+  unnamed-at i b r e eb er = er ∙ sym (rw (e, ← eb))
+
+  pub unnamed-none : m ≡ Nothing → false ≡ unnamedGranted f rq x p (moduleOf s t m)
+  unfolding moduleOf unnamedGranted
+  unnamed-none e = sym (rw e)
+
+pub ruleset unnamed-laws = (unnamed-at, unnamed-none)
+
+-- ---- the verdict
+
+pub allowed-yes : (f g : Bool) → g ≡ true → Allowed ≡ pickResult g Allowed (denied f)
+allowed-yes f g y = sym (rw y)
+
+pub allowed-opens : (f g : Bool) → g ≡ false → f ≡ true → NotOpened ≡ pickResult g Allowed (denied f)
+unfolding denied
+allowed-opens f g y z = sym (rw (y, z))
+
+pub allowed-exports : (f g : Bool) → g ≡ false → f ≡ false → NotExported ≡ pickResult g Allowed (denied f)
+unfolding denied
+allowed-exports f g y z = sym (rw (y, z))
+
+pub ruleset allowed-laws = (allowed-yes, allowed-opens, allowed-exports)
+
+-- the module of the member is the module that is resolved
+module _ (s : List ℕ) (n : ℕ) (t : List ℕ) (k : checkSet s ≡ record { answer = Modules n; starts = t }) (c : Configuration) (x : Name) where
+  good : GoodSet s n t
+  good = good-set s n t k
+
+  resolved : (f : Found) → findModule s x ≡ f → moduleOf s t (amongMembers (c .members) f) ≡ resolvedModule s c x
+  unfolding moduleOf amongMembers resolvedModule isMember heldAt
+  resolved (At i) e = by (holds (c .members) i)
+      (λ y. let l : Located x (modules s) i = set-located s x i e in
+      let m : moduleAt (modules s) i ≡ descriptorOf (blockAt s t i) = module-block s n t good i (omega (arith, l .within, set-length s n t good)) in
+      rw (e, y) (sym (l .is ∙ ap some m)))
+      (λ y. rw (e, y))
+  resolved Nothing e = rw e
+
+  pub resolved-is : (m : Found) → m ≡ memberIn s (c .members) x → moduleOf s t m ≡ resolvedModule s c x
+  unfolding memberIn
+  resolved-is m e = ap (moduleOf s t) e ∙ resolved (findModule s x) refl
+
+module _ (rq : Request) (f : Bool) (o : Option Descriptor) (e : Bool) (x y p : Name) (a : Bool) (ea : a ≡ sameBytes x y) where
+  pub verdict-same : a ≡ true → Allowed ≡ verdictBy f rq o e x y p
+  unfolding verdictBy
+  verdict-same z = sym (rw (← ea, z))
+
+  module _ (z : a ≡ false) (b : Bool) (eb : b ≡ sameBytes x allUnnamed) where
+    pub verdict-unnamed : (g : Bool) (r : AccessCheckResult) → b ≡ true → g ≡ unnamedGranted f rq y p o → r ≡ pickResult g Allowed (denied f)
+        → r ≡ verdictBy f rq o e x y p
+    unfolding verdictBy
+    verdict-unnamed g r w eg er = er ∙ rw eg (sym (rw (← ea, z, ← eb, w)))
+
+    pub verdict-not : b ≡ false → e ≡ false → NotReadable ≡ verdictBy f rq o e x y p
+    unfolding verdictBy
+    verdict-not w v = sym (rw (← ea, z, ← eb, w, v))
+
+    pub verdict-named : (g : Bool) (r : AccessCheckResult) → b ≡ false → e ≡ true → g ≡ hasGrant (grantsOf f rq) y p x || granted f o p x
+        → r ≡ pickResult g Allowed (denied f) → r ≡ verdictBy f rq o e x y p
+    unfolding verdictBy
+    verdict-named g r w v eg er = er ∙ rw eg (sym (rw (← ea, z, ← eb, w, v)))
+
+pub ruleset verdict-laws = (verdict-same, verdict-unnamed, verdict-not, verdict-named)
+
+-- ---- the set and the request are checked first
+
+module _ (s q : List ℕ) (f : Bool) (c : Configuration) (x y p : Name) (k : Checked) (ek : k ≡ checkInputs s q) where
+  pub answer-refused : (e : ModuleError) → k .answer ≡ Set.Refused e → Refused e ≡ checkAccess f s q c x y p
+  unfolding checkAccess answered
+  answer-refused e h = sym (ap (answered f s q c x y p) (ap (λ (z : Checked). z .answer) (sym ek) ∙ h))
+
+  pub answer-verdict : (n : ℕ) (m : Found) (e d : Bool) (r : AccessCheckResult) → k .answer ≡ Modules n → m ≡ memberIn s (c .members) y
+      → e ≡ readsName s c x y → d ≡ e || sameBytes y javaBase → r ≡ verdictBy f (requestOf q) (moduleOf s (k .starts) m) d x y p
+      → Verdict r ≡ checkAccess f s q c x y p
+  unfolding checkAccess answered verdict namedVerdict unnamedVerdict verdictBy
+  answer-verdict n m e d r h em ee ed er =
+      ap Verdict (er ∙ rw (resolved-is s n (k .starts) (inputs-taken s q n k ek h) c y m em, ed, ee))
+      ∙ sym (ap (answered f s q c x y p) (ap (λ (z : Checked). z .answer) (sym ek) ∙ h))
+
+pub answer-set : (s q : List ℕ) (k : Checked) → k ≡ checkInputs s q → (n : ℕ) → k .answer ≡ Modules n → checkSet s ≡ record { answer = Modules n; starts = k .starts }
+answer-set s q k ek n h = inputs-taken s q n k ek h
+
+pub ruleset answer-laws = (answer-refused, answer-verdict, answer-set)
+
+-- ---- whether a module can read another
+
+module _ (s : List ℕ) (c : Configuration) (x y : Name) (k : Checked) (ek : k ≡ checkSet s) where
+  pub can-refused : (e : ModuleError) → k .answer ≡ Set.Refused e → Read.Refused e ≡ canRead s c x y
+  unfolding canRead readAnswered
+  can-refused e h = sym (ap (readAnswered s c x y) (ap (λ (z : Checked). z .answer) (sym ek) ∙ h))
+
+  module _ (n : ℕ) (h : k .answer ≡ Modules n) (a : Bool) (ea : a ≡ sameBytes x y) where
+    pub can-same : a ≡ true → Read.Reads true ≡ canRead s c x y
+    unfolding canRead readAnswered
+    can-same z = sym (ap (readAnswered s c x y) (ap (λ (z : Checked). z .answer) (sym ek) ∙ h) ∙ rw (← ea, z))
+
+    pub can-edge : (e r : Bool) → a ≡ false → e ≡ readsName s c x y → r ≡ e || sameBytes y javaBase → Read.Reads r ≡ canRead s c x y
+    unfolding canRead readAnswered
+    can-edge e r z ee er =
+        ap Read.Reads (er ∙ ap (λ (t : Bool). t || sameBytes y javaBase) ee ∙ turned (readsName s c x y) (sameBytes y javaBase))
+        ∙ sym (ap (readAnswered s c x y) (ap (λ (z : Checked). z .answer) (sym ek) ∙ h) ∙ rw (← ea, z))
+      where
+        turned : (u v : Bool) → (u || v) ≡ (v || u)
+        turned true v = sym (or-true v)
+        turned false v = sym (or-false v)
+
+pub can-set : (s : List ℕ) (k : Checked) → k ≡ checkSet s → (n : ℕ) → k .answer ≡ Modules n → checkSet s ≡ record { answer = Modules n; starts = k .starts }
+can-set s k ek n h = sym ek ∙ ap (λ (z : SetAnswer). record { answer = z; starts = k .starts }) h
+
+pub ruleset can-laws = (can-refused, can-same, can-edge, can-set)

@@ -1,0 +1,15 @@
+use Rattle.access.proofs.graph.Laws.{onward-is}
+use borrow.Author.Needs.{needs}
+use Rattle.access.proofs.graph.onward.Statement.{statement}
+use Rattle.access.proofs.graph.onward.Tie as tie
+
+pub onward-spec : {M : Type 1} → statement M
+onward-spec =
+    tie.close
+    (tie.spec
+    (λ c κs. search (onward-is, needs))
+    (λ c κs. search (onward-is, needs))
+    (λ c κs. search needs)
+    (λ c κs. search (onward-is, needs))
+    (λ c κs. search needs)
+    (λ c. search (onward-is, needs)))

@@ -1,0 +1,22 @@
+use Rattle.access.proofs.graph.Laws.{readers-of-laws}
+use borrow.Author.Needs.{needs}
+use Rattle.access.proofs.graph.readers_of.Statement.{statement}
+use Rattle.access.proofs.graph.readers_of.Tie as tie
+
+pub readers-of-spec : {M : Type 1} → statement M
+readers-of-spec =
+    tie.close
+    (tie.spec
+    (λ c κs. search (readers-of-laws, needs))
+    (λ c. search (readers-of-laws, needs))
+    (λ c κs. search (readers-of-laws, needs))
+    (λ c. search (readers-of-laws, needs))
+    (λ c. search (readers-of-laws, needs))
+    (λ c κs. search (readers-of-laws, needs))
+    (λ c. search (readers-of-laws, needs))
+    (λ c κs. search (readers-of-laws, needs))
+    (λ c. search (readers-of-laws, needs))
+    (λ c κs. search (readers-of-laws, needs))
+    (λ c κs. search (readers-of-laws, needs))
+    (λ c. search (readers-of-laws, needs))
+    (λ c. search (readers-of-laws, needs)))

@@ -1,0 +1,69 @@
+-- Demand 3, whole, over bytes. A pair of a set and a request is accepted where `resolve` accepts it; its configuration is the one
+-- that `resolve` gives. All is told by names.
+use mathlib.Core.Path.{_≡_}
+use mathlib.Core.Bool.{Bool, true}
+use mathlib.Core.List.{List}
+use Prim.Native.Nat.{ℕ}
+use Rattle.records.specs.Request.{Read, Grant, requestOf, isPermitted}
+use Rattle.records.specs.Set.{blocks, modules}
+use Rattle.resolution.specs.Lists.{Name, Mem}
+use Rattle.resolution.specs.Closed.{Smallest}
+use Rattle.resolution.specs.Resolve.{resolve}
+use Rattle.resolution.specs.PackageOwner.{findModuleForPackage}
+use Rattle.resolution.specs.Positions.{moduleAt}
+use Rattle.resolution.specs.declared.configuration.Configuration.{Configuration}
+use Rattle.resolution.specs.declared.owner.Owner.the-variants.{At}
+use Rattle.resolution.specs.declared.resolve.Outcome.the-variants.{Accepted}
+use Rattle.access.specs.Access.{isMember, readsName, checkAccess}
+use Rattle.access.specs.declared.access.AccessAnswer.the-variants.{Verdict}
+use Rattle.access.specs.declared.access.AccessCheckResult.the-variants.{Allowed}
+
+-- "if accepted"
+abbrev pub IsAccepted : List ℕ → List ℕ → Type 0
+IsAccepted s q = resolve s q .outcome ≡ Accepted
+
+-- "the configuration they resolve to"
+abbrev pub configuration : List ℕ → List ℕ → Configuration
+configuration s q = resolve s q .configuration
+
+-- "the modules resolved", by name
+abbrev pub Resolved : List ℕ → List ℕ → Name → Type 0
+Resolved s q n = isMember s (configuration s q) n ≡ true
+
+-- the package p is owned by the module n
+abbrev pub Owns : List ℕ → List ℕ → Name → Name → Type 0
+Owns s q n p = (i : ℕ) × (findModuleForPackage s (configuration s q) p ≡ At i) × (moduleAt (modules s) i .name ≡ n)
+
+-- "of any two accepted requests, each with its set"
+pub record Grows (s₁ q₁ s₂ q₂ : List ℕ) : Type 0 where
+  -- "each module observable in the first is so in the second, unaltered"
+  pub modules : (b : List ℕ) → Mem b (blocks s₁) → Mem b (blocks s₂)
+  -- "the second has at least the first's roots"
+  pub roots : (n : Name) → Mem n (requestOf q₁ .roots) → Mem n (requestOf q₂ .roots)
+  -- "permitted names"
+  pub permitted : (n : Name) → isPermitted (requestOf q₁) n ≡ true → isPermitted (requestOf q₂) n ≡ true
+  -- "and overrides": AR, AE, AO
+  pub addReads : (a : Read) → Mem a (requestOf q₁ .addReads) → Mem a (requestOf q₂ .addReads)
+  pub addExports : (a : Grant) → Mem a (requestOf q₁ .addExports) → Mem a (requestOf q₂ .addExports)
+  pub addOpens : (a : Grant) → Mem a (requestOf q₁ .addOpens) → Mem a (requestOf q₂ .addOpens)
+
+-- "the second has, told by names,"
+pub record KeepsAll (s₁ q₁ s₂ q₂ : List ℕ) : Type 0 where
+  -- "every resolved module,"
+  pub members : (n : Name) → Resolved s₁ q₁ n → Resolved s₂ q₂ n
+  -- "read edge" (to ALL-UNNAMED too)
+  pub reads : (x y : Name) → readsName s₁ (configuration s₁ q₁) x y ≡ true → readsName s₂ (configuration s₂ q₂) x y ≡ true
+  -- "and package owner of the first;"
+  pub owners : (n p : Name) → Owns s₁ q₁ n p → Owns s₂ q₂ n p
+  -- "and every question of any three byte strings, for access or for reflection, that is Allowed in the first is Allowed in the
+  -- second"
+  pub allowed : (reflection : Bool) (asker target p : Name) → checkAccess reflection s₁ q₁ (configuration s₁ q₁) asker target p ≡ Verdict Allowed
+      → checkAccess reflection s₂ q₂ (configuration s₂ q₂) asker target p ≡ Verdict Allowed
+
+pub record Demand3 : Type 1 where
+  -- "Whatever the set and the request, if accepted: the modules resolved are a set of observable modules that holds java.base,
+  -- every permitted root and, with each member, its permitted, observable requirements and all permitted, observable providers of
+  -- services it uses; and they lie inside every other such set." (`Closed` and `Smallest` of the crate `resolution`)
+  pub smallest : (s q : List ℕ) → IsAccepted s q → Smallest (modules s) (requestOf q) (Resolved s q)
+  -- "And of any two accepted requests .."
+  pub kept : (s₁ q₁ s₂ q₂ : List ℕ) → IsAccepted s₁ q₁ → IsAccepted s₂ q₂ → Grows s₁ q₁ s₂ q₂ → KeepsAll s₁ q₁ s₂ q₂

@@ -1,0 +1,75 @@
+-- What each step of the questions about the graph leaves. As in ReadGraph, n is the number of the set's modules, ws are the words of
+-- the members, g those of the read edges and un those of the readers of ALL-UNNAMED.
+use mathlib.Core.Path.{_≡_}
+use mathlib.Core.Bool.{Bool, true, false, _&&_, _||_}
+use mathlib.Core.List.{List}
+use Prim.Native.Nat.{ℕ, zero, suc, _<_}
+use lib.Dec.{ltb}
+use Rattle.records.specs.declared.finder.Found.{Found}
+use Rattle.resolution.specs.Row.{holds}
+use Rattle.resolution.specs.Graph.{edge}
+use Rattle.resolution.specs.Resolve.{words}
+use Rattle.access.specs.Access.{edgeTo}
+use Rattle.access.specs.ReadGraph.{countsAt, Leads, LeadsToUnnamed}
+use Rattle.access.specs.declared.graph.GraphOutcome.the-variants.{Answered}
+use Rattle.access.specs.declared.graph.GraphAnswer.{GraphAnswer}
+
+-- the answer of this row
+pub record Told (row : List ℕ) (unnamed : Bool) (r : GraphAnswer) : Type 0 where
+  pub is : r ≡ record { outcome = Answered; row = row; unnamed = unnamed }
+  -- the words are those of any test that these positions pass
+  pub by-words : (p : ℕ → Bool) → ((k : ℕ) → k < 256 → holds row k ≡ p k) → row ≡ words p 4
+
+-- the member at k reads what is found or, if asked, ALL-UNNAMED
+unfoldable pub readerAt : List ℕ → List ℕ → List ℕ → Found → Bool → ℕ → Bool
+unfolding edgeTo
+readerAt ws g un f u k = holds ws k && (edgeTo g k f || (u && holds un k))
+
+unfoldable pub readerBelow : ℕ → List ℕ → List ℕ → List ℕ → Found → Bool → ℕ → Bool
+unfolding readerAt
+readerBelow n ws g un f u k = ltb k n && readerAt ws g un f u k
+
+unfoldable pub heldBelow : ℕ → List ℕ → ℕ → Bool
+heldBelow n row k = ltb k n && holds row k
+
+-- the row, and what i reads if it is in the row and a member
+unfoldable pub spreadAt : List ℕ → List ℕ → List ℕ → ℕ → ℕ → Bool
+spreadAt row ws g i j = holds row j || ((holds row i && holds ws i) && edge g i j)
+
+-- an edge that counts leads from i to j, which may be past the modules
+unfoldable pub onwardAt : ℕ → List ℕ → List ℕ → ℕ → ℕ → Bool
+unfolding countsAt
+onwardAt n ws g i j = countsAt n ws i && edge g i j
+
+-- k is in the row, or such edges lead there from it
+pub data From (n : ℕ) (ws g row : List ℕ) : ℕ → Type 0 where
+  at : {k : ℕ} → holds row k ≡ true → From n ws g row k
+  on : {j k : ℕ} → From n ws g row j → onwardAt n ws g j k ≡ true → From n ws g row k
+
+-- every member of the row has its edges in `after`
+pub record Swept (n : ℕ) (ws g before after : List ℕ) : Type 0 where
+  pub kept : (j : ℕ) → holds before j ≡ true → holds after j ≡ true
+  pub sound : (j : ℕ) → holds after j ≡ true → From n ws g before j
+  pub next : (i : ℕ) → i < n → holds before i ≡ true → holds ws i ≡ true → (j : ℕ) → edge g i j ≡ true → holds after j ≡ true
+
+-- `after` holds what edges lead to from the row, and the row itself
+pub record Gathered (n : ℕ) (ws g row after : List ℕ) : Type 0 where
+  pub sound : (j : ℕ) → holds after j ≡ true → From n ws g row j
+  pub complete : (j : ℕ) → From n ws g row j → holds after j ≡ true
+
+unfoldable pub anyBelow : (ℕ → Bool) → ℕ → Bool
+anyBelow p zero = false
+anyBelow p (suc n) = anyBelow p n || p n
+
+-- k is in the row, is a member, and reads ALL-UNNAMED
+unfoldable pub unnamedIn : List ℕ → List ℕ → List ℕ → ℕ → Bool
+unnamedIn row ws un k = holds row k && (holds ws k && holds un k)
+
+-- the answer r tells what the module at i leads to
+pub record Onward (n : ℕ) (ws g un : List ℕ) (i : ℕ) (r : GraphAnswer) : Type 0 where
+  pub outcome : r .outcome ≡ Answered
+  pub row-words : r .row ≡ words (holds (r .row)) 4
+  pub row-sound : (k : ℕ) → holds (r .row) k ≡ true → Leads n ws g i k
+  pub row-complete : (k : ℕ) → Leads n ws g i k → holds (r .row) k ≡ true
+  pub unnamed-sound : r .unnamed ≡ true → LeadsToUnnamed n ws g un i
+  pub unnamed-complete : LeadsToUnnamed n ws g un i → r .unnamed ≡ true

@@ -1,0 +1,275 @@
+// The graph of reads: who reads a module, and what its reads lead to. In every function n is the number of the set's modules, and g
+// the words of the read edges.
+ghost use mathlib.Core.Path.{_≡_};
+ghost use mathlib.Core.Bool.{true, _||_};
+ghost use Prim.Native.Nat.{_≤_};
+ghost use lib.ListN.{length};
+ghost use Rattle.resolution.specs.Row.{holds};
+ghost use Rattle.resolution.specs.Graph.{Successors};
+ghost use Rattle.resolution.specs.Readability.{Holding};
+ghost use Rattle.access.specs.Access.{edgeTo};
+ghost use Rattle.access.specs.ReadGraph.{countsAt, refusedGraph, readersOf, TransitiveReads};
+ghost use Rattle.access.specs.GraphSteps.{Told, readerAt, readerBelow, heldBelow, spreadAt, Swept, Gathered, anyBelow, unnamedIn, Onward};
+use crate::members::member;
+use records::bytes::same;
+use records::error::ModuleError;
+use records::finder::Found;
+use records::finder::find;
+use records::set::SetAnswer;
+use records::set::check_set;
+use resolution::configuration::Configuration;
+use resolution::row::Row;
+use resolution::row::count;
+use resolution::row::empty;
+use resolution::row::has;
+use resolution::row::union;
+use resolution::row::with;
+
+pub enum GraphOutcome {
+    Answered,
+    Refused(ModuleError),
+}
+
+// A row of positions in the set, and whether ALL-UNNAMED is among them. Nothing of it where the set is refused.
+pub struct GraphAnswer {
+    pub outcome: GraphOutcome,
+    pub row: [u64; 4],
+    pub unnamed: bool,
+}
+
+fn refuse(e: ModuleError) -> GraphAnswer
+    ensures { λ r. ⌜ r ≡ refusedGraph e ⌝ }
+{
+    GraphAnswer {
+        outcome: GraphOutcome::Refused(e),
+        row: [0; 4],
+        unnamed: false,
+    }
+}
+
+fn tell(row: Row, unnamed: bool) -> GraphAnswer
+    ensures { λ r. ⌜ Told (row .words) unnamed r ⌝ }
+{
+    let words = row.words;
+    GraphAnswer {
+        outcome: GraphOutcome::Answered,
+        row: words,
+        unnamed,
+    }
+}
+
+// The modules that i reads.
+fn row_at(g: &[u64], i: usize) -> Row
+    requires { ⌜ length (now g) ≡ 1024 ⌝ }
+    ensures { λ r. ⌜ Successors (now (g .entry)) i (r .words) ⌝ }
+{
+    if i < 256 {
+        let at = i * 4;
+        let words = [g[at], g[at + 1], g[at + 2], g[at + 3]];
+        return Row { words };
+    }
+    empty()
+}
+
+// An edge from i to what is found.
+fn reads_found(g: &[u64], i: usize, found: Found) -> bool
+    requires { ⌜ length (now g) ≡ 1024 ⌝ }
+    ensures { λ r. ⌜ r ≡ edgeTo (now (g .entry)) i found ⌝ }
+{
+    match found {
+        Found::At(j) => has(row_at(g, i), j),
+        Found::Nothing => false,
+    }
+}
+
+// The member at k reads what is found or, if asked, ALL-UNNAMED.
+fn is_reader(g: &[u64], members: Row, unnamed: Row, found: Found, asked: bool, k: usize) -> bool
+    requires { ⌜ length (now g) ≡ 1024 ⌝ }
+    ensures { λ r. ⌜ r ≡ readerAt (members .words) (now (g .entry)) (unnamed .words) found asked k ⌝ }
+{
+    if !has(members, k) {
+        return false;
+    }
+    if reads_found(g, k, found) {
+        return true;
+    }
+    if asked {
+        return has(unnamed, k);
+    }
+    false
+}
+
+// The row of such members.
+fn readers(g: &[u64], members: Row, unnamed: Row, found: Found, asked: bool, n: usize) -> Row
+    requires { ⌜ length (now g) ≡ 1024 ⌝ }
+    requires { ⌜ n ≤ 256 ⌝ }
+    ensures { λ r. ⌜ Holding (r .words) (readerBelow n (members .words) (now (g .entry)) (unnamed .words) found asked) ⌝ }
+{
+    let mut row = empty();
+    let mut k: usize = 0;
+    while k < n {
+        let i = k;
+        k += 1;
+        if is_reader(g, members, unnamed, found, asked, i) {
+            row = with(row, i);
+        }
+    }
+    row
+}
+
+// The positions of the row below n.
+fn below(row: Row, n: usize) -> Row
+    requires { ⌜ n ≤ 256 ⌝ }
+    ensures { λ r. ⌜ Holding (r .words) (heldBelow n (row .words)) ⌝ }
+{
+    let mut out = empty();
+    let mut k: usize = 0;
+    while k < n {
+        let i = k;
+        k += 1;
+        if has(row, i) {
+            out = with(out, i);
+        }
+    }
+    out
+}
+
+// The row, and what i reads if it is in the row and a member.
+fn spread(g: &[u64], members: Row, row: Row, i: usize) -> Row
+    requires { ⌜ length (now g) ≡ 1024 ⌝ }
+    ensures { λ r. ⌜ Holding (r .words) (spreadAt (row .words) (members .words) (now (g .entry)) i) ⌝ }
+{
+    if !has(row, i) {
+        return row;
+    }
+    if !has(members, i) {
+        return row;
+    }
+    union(row, row_at(g, i))
+}
+
+// The row, and what its members read.
+fn sweep(g: &[u64], members: Row, row: Row, n: usize) -> Row
+    requires { ⌜ length (now g) ≡ 1024 ⌝ }
+    ensures { λ r. ⌜ Swept n (members .words) (now (g .entry)) (row .words) (r .words) ⌝ }
+{
+    let mut out = row;
+    let mut k: usize = 0;
+    while k < n {
+        out = spread(g, members, out, k);
+        k += 1;
+    }
+    out
+}
+
+// The row, and what edges lead to from it: until a sweep adds nothing.
+fn gather(g: &[u64], members: Row, row: Row, n: usize) -> Row
+    requires { ⌜ length (now g) ≡ 1024 ⌝ }
+    ensures { λ r. ⌜ Gathered n (members .words) (now (g .entry)) (row .words) (r .words) ⌝ }
+{
+    let mut out = row;
+    loop {
+        let next = sweep(g, members, out, n);
+        if count(next) == count(out) {
+            return out;
+        }
+        out = next;
+    }
+}
+
+// Position k is in the row, is a member, and reads ALL-UNNAMED.
+fn is_unnamed(row: Row, members: Row, unnamed: Row, k: usize) -> bool
+    ensures { λ r. ⌜ r ≡ unnamedIn (row .words) (members .words) (unnamed .words) k ⌝ }
+{
+    if !has(row, k) {
+        return false;
+    }
+    if !has(members, k) {
+        return false;
+    }
+    has(unnamed, k)
+}
+
+fn any_unnamed(row: Row, members: Row, unnamed: Row, n: usize) -> bool
+    ensures { λ r. ⌜ r ≡ anyBelow (unnamedIn (row .words) (members .words) (unnamed .words)) n ⌝ }
+{
+    let mut k: usize = 0;
+    while k < n {
+        if is_unnamed(row, members, unnamed, k) {
+            return true;
+        }
+        k += 1;
+    }
+    false
+}
+
+// Position i reads ALL-UNNAMED, or a member in the row does.
+fn reads_unnamed(row: Row, members: Row, unnamed: Row, n: usize, i: usize) -> bool
+    ensures { λ r. ⌜ r ≡ holds (unnamed .words) i || anyBelow (unnamedIn (row .words) (members .words) (unnamed .words)) n ⌝ }
+{
+    if has(unnamed, i) {
+        return true;
+    }
+    any_unnamed(row, members, unnamed, n)
+}
+
+// What the member at i leads to.
+fn onward(g: &[u64], members: Row, unnamed: Row, n: usize, i: usize) -> GraphAnswer
+    requires { ⌜ length (now g) ≡ 1024 ⌝ }
+    requires { ⌜ n ≤ 256 ⌝ }
+    requires { ⌜ countsAt n (members .words) i ≡ true ⌝ }
+    ensures { λ r. ⌜ Onward n (members .words) (now (g .entry)) (unnamed .words) i r ⌝ }
+{
+    let row = gather(g, members, row_at(g, i), n);
+    let last = reads_unnamed(row, members, unnamed, n, i);
+    tell(below(row, n), last)
+}
+
+// The members that read the module of this name, or ALL-UNNAMED. The set is checked first.
+pub fn readers_of(set: &[u8], configuration: Configuration, name: &[u8]) -> GraphAnswer
+    ensures { λ r. ⌜ r ≡ readersOf (now (set .entry)) configuration (now (name .entry)) ⌝ }
+{
+    let checked = check_set(set);
+    let answer = checked.answer;
+    match answer {
+        SetAnswer::Refused(e) => refuse(e),
+        SetAnswer::Modules(n) => {
+            let starts = checked.starts;
+            let found = find(set, &starts, n, name);
+            let asked = same(name, b"ALL-UNNAMED");
+            let members = configuration.members;
+            let unnamed = configuration.unnamed;
+            let g = configuration.reads;
+            let row = readers(
+                &g,
+                Row { words: members },
+                Row { words: unnamed },
+                found,
+                asked,
+                n,
+            );
+            tell(row, false)
+        }
+    }
+}
+
+// What one read edge or more lead to from the module of this name. The set is checked first.
+pub fn transitive_reads(set: &[u8], configuration: Configuration, name: &[u8]) -> GraphAnswer
+    ensures { λ r. ⌜ TransitiveReads (now (set .entry)) configuration (now (name .entry)) r ⌝ }
+{
+    let checked = check_set(set);
+    let answer = checked.answer;
+    match answer {
+        SetAnswer::Refused(e) => refuse(e),
+        SetAnswer::Modules(n) => {
+            let starts = checked.starts;
+            let members = configuration.members;
+            let unnamed = configuration.unnamed;
+            let g = configuration.reads;
+            match member(set, &starts, n, Row { words: members }, name) {
+                Found::At(i) => onward(&g, Row { words: members }, Row { words: unnamed }, n, i),
+                Found::Nothing => tell(empty(), false),
+            }
+        }
+    }
+}

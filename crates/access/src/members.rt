@@ -1,0 +1,25 @@
+// The member of a name, over the table of a set that the check takes.
+ghost use mathlib.Core.Path.{_≡_};
+ghost use Rattle.records.specs.Set.{checkSet};
+ghost use Rattle.records.specs.declared.set.SetAnswer.the-variants.{Modules};
+ghost use Rattle.access.specs.Members.{memberIn};
+use records::finder::Found;
+use records::finder::find;
+use resolution::row::Row;
+use resolution::row::has;
+
+// The member of this name.
+pub fn member(set: &[u8], starts: &[usize], count: usize, members: Row, name: &[u8]) -> Found
+    requires { ⌜ checkSet (now set) ≡ record { answer = Modules count; starts = now starts } ⌝ }
+    ensures { λ r. ⌜ r ≡ memberIn (now (set .entry)) (members .words) (now (name .entry)) ⌝ }
+{
+    match find(set, starts, count, name) {
+        Found::At(i) => {
+            if has(members, i) {
+                return Found::At(i);
+            }
+            Found::Nothing
+        }
+        Found::Nothing => Found::Nothing,
+    }
+}
