@@ -1,4 +1,4 @@
--- The definitions: what document 01 says of resolution, over the decoded set and request of the crate `records`.
+-- What document 01 says of resolution, over the decoded set and request of the crate `records`, then over bytes.
 pub mod Lists
 pub mod Loop
 pub mod Owner
@@ -6,18 +6,19 @@ pub mod Resolution
 pub mod Reach
 pub mod Reads
 pub mod Closed
-pub mod Short
-pub mod Positions
-pub mod Visit
-pub mod Cases
 pub mod Row
 pub mod Graph
 pub mod Configuration
+pub mod Positions
 pub mod Resolve
+pub mod Absent
+pub mod PackageOwner
+pub mod Cases
+-- The forms that the code follows, and what private functions promise. proofs/ shows that they say the same.
+pub mod Short
+pub mod Visit
 pub mod Resolver
 pub mod Filter
 pub mod Runs
 pub mod Readability
 pub mod Configure
-pub mod Absent
-pub mod PackageOwner
