@@ -10,7 +10,7 @@ use crate::bytes::head;
 use crate::order::name_in;
 
 // Writes s at `at`, and returns the place behind it.
-fn put(out: &mut [u8], at: usize, s: &[u8]) -> usize
+pub fn put(out: &mut [u8], at: usize, s: &[u8]) -> usize
     requires { ⌜ at + length (now s) ≤ length (now out) ⌝ }
     ensures { λ r. ⌜ Put (now (out .entry)) at (now (s .entry)) (now (out .exit)) r ⌝ }
 {
@@ -40,7 +40,7 @@ pub fn size(packages: &[u8], table: &[usize], count: usize) -> usize
 }
 
 // Writes the name between `front` and `end`, and returns the place behind them.
-fn put_named(out: &mut [u8], at: usize, front: &[u8], name: &[u8], end: &[u8]) -> usize
+pub fn put_named(out: &mut [u8], at: usize, front: &[u8], name: &[u8], end: &[u8]) -> usize
     requires { ⌜ at + (length (now front) + (length (now name) + length (now end))) ≤ length (now out) ⌝ }
     ensures { λ r. ⌜ Put (now (out .entry)) at (now (front .entry) ++ (now (name .entry) ++ now (end .entry))) (now (out .exit)) r ⌝ }
 {
@@ -70,7 +70,7 @@ fn put_record(out: &mut [u8], at: usize, mark: usize, name: &[u8], end: &[u8]) -
 
 // Writes a record with this mark for each of the table's first `count` packages, with a body of the name and then `extra`
 // zeros, and returns the place behind them.
-fn put_group(
+pub fn put_group(
     out: &mut [u8],
     at: usize,
     mark: usize,

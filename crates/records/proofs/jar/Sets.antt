@@ -8,14 +8,14 @@ use lib.ListN.{length, getD, take, drop, length-append}
 use lib.Dec.{ltb}
 use borrow.Author.Tests.{le-ltb, eq-eqb}
 use Rattle.records.specs.Bytes.{sameBytes}
-use Rattle.records.specs.Name.{javaBase, printable, nameOf, afterName, isField, isName, isEmpty, isVersion, isNameVersion, memName}
-use Rattle.records.specs.Record.{recordMore, whole, records, markFor, setKind, isRequires, isBody}
+use Rattle.records.specs.Name.{javaBase, allUnnamed, printable, nameOf, afterName, isField, isName, isEmpty, isVersion, isNameVersion, memName}
+use Rattle.records.specs.Record.{recordMore, records, markFor, setKind, isRequires, isBody}
 use Rattle.records.specs.Descriptor.{Descriptor, moduleName}
 use Rattle.records.specs.Set.{Passed, nameAt, isPlaced, admitAt, passAt, judgeAt, tableOf, accepted, goOn, checkFrom, checkSet, modules}
 use Rattle.records.specs.Automatic.{derivedName, isModuleName, validated, derived, pickNamed, withoutJar, fileName}
 use Rattle.records.specs.Request.{checkRecords}
 use Rattle.records.specs.Order.{ordered, packagesOf, allNames}
-use Rattle.records.specs.Output.{recordBytes, nameBytes, moduleRecord, baseRecord, group, noTargets, automaticRecords}
+use Rattle.records.specs.Output.{recordBytes, nameBytes, moduleRecord, baseRecord, group, noTargets, automaticRecords, packageRecords}
 use Rattle.records.specs.Jar.{nameFor, namedFor, recordsFor, pickWritten, fitted, thenName, thenPackages, jarAnswer}
 use Rattle.records.specs.declared.automatic.Named.{Named}
 use Rattle.records.specs.declared.automatic.Named.the-variants as Named
@@ -37,29 +37,62 @@ use Rattle.records.proofs.set.Blocks.{good-set}
 use Rattle.records.proofs.set.Table.{name-here}
 use Rattle.records.proofs.jar.PackageNames.{isPackageName, name-some, name-printable, names-short, good-packages}
 
--- ---- the check of the records
+-- ---- a set of one module
+
+-- these records are a set of one module, which has this name
+pub record OneModule (s name : List ℕ) : Type 0 where
+  pub taken : checkSet s ≡ accepted (0 ∷ []) (length s)
+  pub named : map (λ (m : Descriptor). m .name) (modules s) ≡ name ∷ []
 
 -- one module, which starts at 0 and has no MC
-abbrev one : Passed
+abbrev pub one : Passed
 one = record { starts = 0 ∷ []; main = false }
 
--- records that pass behind the MO
+-- a record that passes behind the MO
 module _ (s : List ℕ) (k : Kind) (known : setKind (markFor k) ≡ k) (placed : isPlaced 1 false k ≡ true) (goes : (at : ℕ) (b : List ℕ) → passAt s (0 ∷ []) at k b ≡ Pass) where
-  passes : (at : ℕ) (b : List ℕ) (rs : List (List ℕ)) → isBody k b ≡ true → checkFrom s one at (recordBytes k b ∷ rs) ≡ checkFrom s one (at + length (recordBytes k b)) rs
+  pub passes : (at : ℕ) (b : List ℕ) (rs : List (List ℕ)) → isBody k b ≡ true → checkFrom s one at (recordBytes k b ∷ rs) ≡ checkFrom s one (at + length (recordBytes k b)) rs
   unfolding checkFrom judgeAt goOn
   passes at b rs e = rw (made-mark k b, made-body k b, known, placed, e, goes at b)
 
-  module _ (end : List ℕ) (made : (n : List ℕ) → isPackageName n ≡ true → isBody k (nameBytes n ++ end) ≡ true) where
-    group-passes : (at : ℕ) (ns rs : List (List ℕ)) → allNames isPackageName ns ≡ true → checkFrom s one at (groupRecords k end ns ++ rs) ≡ checkFrom s one (at + length (group k end ns)) rs
-    unfolding groupRecords group allNames
-    group-passes at [] rs e = let z : at + 0 ≡ at = omega arith in rw z
-    group-passes at (n ∷ ns) rs e =
-        let p : (isPackageName n ≡ true) × (allNames isPackageName ns ≡ true) = both (isPackageName n) (allNames isPackageName ns) e in
-        let r : List ℕ = recordBytes k (nameBytes n ++ end) in
-        let w : at + length r + length (group k end ns) ≡ at + length (r ++ group k end ns) = rw length-append (omega arith) in
-        passes at (nameBytes n ++ end) (groupRecords k end ns ++ rs) (made n (p .0)) ∙ group-passes (at + length r) ns rs (p .1) ∙ rw w
+-- an MO with this body, and `rest` behind it, which are the records rs
+module _ (header rest : List ℕ) (rs : List (List ℕ)) (made : isBody Module header ≡ true) (short : length header < 65536) (unlike : sameBytes (moduleName header) allUnnamed ≡ false) where
+  abbrev set : List ℕ
+  set = recordBytes Module header ++ rest
 
--- the records of an automatic module with these packages
+  module-starts : checkFrom set (record { starts = []; main = false }) 0 (recordBytes Module header ∷ rs) ≡ checkFrom set one (length (recordBytes Module header)) rs
+  unfolding checkFrom judgeAt goOn isPlaced passAt admitAt memName setKind markFor
+  module-starts =
+      let z : 0 + length (recordBytes Module header) ≡ length (recordBytes Module header) = omega arith in
+      rw (made-mark Module header, made-body Module header, made, unlike, z)
+
+  module _ (shown : records set ≡ recordBytes Module header ∷ rs) where
+    first-name : nameAt set 0 ≡ moduleName header
+    first-name =
+        let cut : take (suc (recordMore set)) set ∷ records (drop (suc (recordMore set)) set) ≡ recordBytes Module header ∷ rs =
+        sym (records-cons set (made-whole Module header rest short)) ∙ shown in
+        let first : take (suc (recordMore set)) set ≡ recordBytes Module header = cc in
+        name-here set set 0 refl ∙ rw (first, made-body Module header)
+
+    -- where the check takes what stands behind the MO
+    pub one-module : checkFrom set one (length (recordBytes Module header)) rs ≡ accepted (0 ∷ []) (length set) → length set ≤ 65535 → OneModule set (moduleName header)
+    unfolding checkSet accepted tableOf
+    one-module e l =
+        let t : checkSet set ≡ accepted (0 ∷ []) (length set) = rw (le-ltb 65535 (length set) l, shown) (module-starts ∙ e) in
+        record { taken = t; named = sym (good-set set 1 (tableOf (0 ∷ []) (length set)) t .names) ∙ rw first-name }
+
+-- ---- the records of an automatic module
+
+module _ (s : List ℕ) (k : Kind) (known : setKind (markFor k) ≡ k) (placed : isPlaced 1 false k ≡ true) (goes : (at : ℕ) (b : List ℕ) → passAt s (0 ∷ []) at k b ≡ Pass) (end : List ℕ) (made : (n : List ℕ) → isPackageName n ≡ true → isBody k (nameBytes n ++ end) ≡ true) where
+  group-passes : (at : ℕ) (ns rs : List (List ℕ)) → allNames isPackageName ns ≡ true → checkFrom s one at (groupRecords k end ns ++ rs) ≡ checkFrom s one (at + length (group k end ns)) rs
+  unfolding groupRecords group allNames
+  group-passes at [] rs e = let z : at + 0 ≡ at = omega arith in rw z
+  group-passes at (n ∷ ns) rs e =
+      let p : (isPackageName n ≡ true) × (allNames isPackageName ns ≡ true) = both (isPackageName n) (allNames isPackageName ns) e in
+      let r : List ℕ = recordBytes k (nameBytes n ++ end) in
+      let w : at + length r + length (group k end ns) ≡ at + length (r ++ group k end ns) = rw length-append (omega arith) in
+      passes s k known placed goes at (nameBytes n ++ end) (groupRecords k end ns ++ rs) (made n (p .0)) ∙ group-passes (at + length r) ns rs (p .1) ∙ rw w
+
+-- with these packages
 module _ (n : List ℕ) (ps : List (List ℕ)) (v : isModuleName n ≡ true) (g : allNames isPackageName ps ≡ true) where
   abbrev s : List ℕ
   s = automaticRecords n ps
@@ -74,19 +107,6 @@ module _ (n : List ℕ) (ps : List (List ℕ)) (v : isModuleName n ≡ true) (g 
 
   abbrev exported : List (List ℕ)
   exported = groupRecords Exports noTargets ps ++ opened
-
-  module-starts : (rs : List (List ℕ)) → checkFrom s (record { starts = []; main = false }) 0 (moduleRecord n ∷ rs) ≡ checkFrom s one (length (moduleRecord n)) rs
-  unfolding moduleRecord checkFrom judgeAt goOn isPlaced isBody passAt admitAt moduleName memName setKind markFor
-  module-starts rs =
-      let z : 0 + length (recordBytes Module header) ≡ length (recordBytes Module header) = omega arith in
-      rw (
-        made-mark Module header,
-        made-body Module header,
-        module-made n (module-name-printable n v) (module-name-some n v),
-        name-read n (0 ∷ []),
-        module-name-not-unnamed n v,
-        z,
-      )
 
   base-passes : (at : ℕ) (rs : List (List ℕ)) → checkFrom s one at (baseRecord ∷ rs) ≡ checkFrom s one (at + length baseRecord) rs
   unfolding baseRecord isBody isRequires isNameVersion isVersion isName isField isEmpty afterName nameOf printable nameBytes sameBytes isPlaced passAt setKind markFor
@@ -108,36 +128,33 @@ module _ (n : List ℕ) (ps : List (List ℕ)) (v : isModuleName n ≡ true) (g 
   unfolding automaticRecords
   used = simp length-append (omega arith)
 
-  shown : records s ≡ moduleRecord n ∷ baseRecord ∷ exported
-  shown = automatic-records n ps (module-name-short n v) (names-short ps g)
-
-  set-taken : length s ≤ 65535 → checkSet s ≡ accepted (0 ∷ []) (length s)
-  unfolding checkSet checkFrom
-  set-taken l =
+  rest-taken : checkFrom s one (length (moduleRecord n)) (baseRecord ∷ exported) ≡ accepted (0 ∷ []) (length s)
+  unfolding checkFrom
+  rest-taken =
       let b : ℕ = length (moduleRecord n) + length baseRecord in
       let c : ℕ = b + length (group Exports noTargets ps) in
       let d : ℕ = c + length (group Opens noTargets ps) in
-      rw (le-ltb 65535 (length s) l, shown)
-      (module-starts (baseRecord ∷ exported)
-      ∙ base-passes (length (moduleRecord n)) exported
+      base-passes (length (moduleRecord n)) exported
       ∙ exports-pass b opened
       ∙ opens-pass c (groupRecords Package [] ps)
       ∙ ap (checkFrom s one d) (sym (append-nil (groupRecords Package [] ps)))
       ∙ packages-pass d []
-      ∙ rw (eq-eqb (d + length (group Package [] ps)) (length s) used))
+      ∙ rw (eq-eqb (d + length (group Package [] ps)) (length s) used)
 
-  first-name : nameAt s 0 ≡ n
-  unfolding automaticRecords moduleRecord moduleName nameBytes
-  first-name =
-      let w : whole s ≡ true =
-      made-whole Module header (baseRecord ++ (group Exports noTargets ps ++ (group Opens noTargets ps ++ group Package [] ps))) (rw length-append (omega (arith, module-name-short n v))) in
-      let cut : take (suc (recordMore s)) s ∷ records (drop (suc (recordMore s)) s) ≡ recordBytes Module header ∷ baseRecord ∷ exported = sym (records-cons s w) ∙ shown in
-      let first : take (suc (recordMore s)) s ≡ recordBytes Module header = cc in
-      name-here s s 0 refl ∙ rw (first, made-body Module header) (name-read n (0 ∷ []))
+  header-name : moduleName header ≡ n
+  unfolding moduleName
+  header-name = name-read n (0 ∷ [])
 
-  set-named : length s ≤ 65535 → map (λ (m : Descriptor). m .name) (modules s) ≡ n ∷ []
-  unfolding accepted tableOf
-  set-named l = sym (good-set s 1 (tableOf (0 ∷ []) (length s)) (set-taken l) .names) ∙ rw first-name
+  header-short : length header < 65536
+  unfolding nameBytes
+  header-short = rw length-append (omega (arith, module-name-short n v))
+
+  automatic-is-set : length s ≤ 65535 → OneModule s n
+  unfolding automaticRecords packageRecords moduleRecord isBody
+  automatic-is-set l =
+      rw header-name at
+      (one-module header (baseRecord ++ packageRecords ps) (baseRecord ∷ exported) (module-made n (module-name-printable n v) (module-name-some n v)) header-short (rw header-name (module-name-not-unnamed n v))
+      (automatic-records n ps (module-name-short n v) (names-short ps g)) rest-taken l)
 
 -- ---- what an answer that is no refusal shows
 
@@ -185,11 +202,6 @@ answered jar given manifest packages room n e =
 
 -- ---- the theorem
 
--- the records of a jar are a set of one module, which has the jar's module name
-pub record OneModule (s name : List ℕ) : Type 0 where
-  pub taken : checkSet s ≡ accepted (0 ∷ []) (length s)
-  pub named : map (λ (m : Descriptor). m .name) (modules s) ≡ name ∷ []
-
 -- what the jar reader writes, where it is at most 65,535 bytes, is a set of exactly one module with that name.
 -- `bytes` says that the package records are a byte string
 pub jar-is-set : (jar : List ℕ) (given : Bool) (manifest packages : List ℕ) (room n : ℕ)
@@ -201,7 +213,4 @@ jar-is-set jar given manifest packages room n bytes e l =
     let a : Answered (nameFor given jar manifest) packages n = answered jar given manifest packages room n e in
     let g : allNames isPackageName (ordered (packagesOf packages)) ≡ true = good-packages packages bytes (a .packages-good) in
     let k : length (automaticRecords (nameFor given jar manifest) (ordered (packagesOf packages))) ≤ 65535 = omega (arith, a .long) in
-    record {
-      taken = set-taken (nameFor given jar manifest) (ordered (packagesOf packages)) (a .named) g k;
-      named = set-named (nameFor given jar manifest) (ordered (packagesOf packages)) (a .named) g k;
-    }
+    automatic-is-set (nameFor given jar manifest) (ordered (packagesOf packages)) (a .named) g k
