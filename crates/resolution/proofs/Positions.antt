@@ -1,13 +1,12 @@
--- Positions: where a name stands in the set, and what one store and one turn of code over an array of positions do.
+-- Positions: where a name stands in the set.
 use mathlib.Core.Path.{_≡_, refl, sym, ap, _∙_, subst}
-use Prim.Native.Nat.{ℕ, zero, suc, _+_, _≤_, _<_}
+use Prim.Native.Nat.{ℕ, zero, suc, _+_, _<_}
 use native.Mathlib.Omega.{arith}
 use native.Mathlib.Nat.{add-zero}
 use mathlib.Core.Bool.{Bool, true, false, not, _||_, cond}
-use mathlib.Core.Option.{Option, none, some}
-use mathlib.Core.List.{List, [], _∷_, _++_, map, List·Memᴰ·head, List·Memᴰ·tail, Memᴰ·cast}
-use lib.ListN.{length, getD, take, drop, set}
-use lib.Seq.{slice, slice-cons, take-suc, take-suc-set, take-set-le, drop-append-le, length-take-le}
+use mathlib.Core.Option.{none, some}
+use mathlib.Core.List.{List, [], _∷_, map, List·Memᴰ·head, List·Memᴰ·tail, Memᴰ·cast}
+use lib.ListN.{length, set}
 use lib.Dec.{eqb}
 use borrow.Author.Tests.{eq-eqb, eqb-true}
 use Rattle.records.specs.declared.finder.Found.the-variants.{At, Nothing}
@@ -18,10 +17,10 @@ use Rattle.records.specs.Finder.{findName, pickFound}
 use Rattle.records.specs.Name.{memName}
 use Rattle.records.specs.Set.{distinct}
 use Rattle.resolution.specs.Lists.{Mem, Name, any, first}
-use Rattle.resolution.specs.Positions.{moduleAt, shortAt}
-use Rattle.resolution.specs.Resolution.{Item, find, hasModule, indexOf, names}
+use Rattle.resolution.specs.Positions.{moduleAt}
+use Rattle.resolution.specs.Resolution.{find, hasModule, indexOf, names}
 use Rattle.resolution.proofs.Find.{find-mem}
-use Rattle.resolution.proofs.Lists.{and-l, and-r, by, map-append, map-in, memName-in, not-t, true≠false, →same}
+use Rattle.resolution.proofs.Lists.{and-l, and-r, by, map-in, memName-in, not-t, true≠false, →same}
 
 -- ---- the position of a name
 
@@ -127,27 +126,3 @@ has-at s n d l (p ∷ ps) b = turned (sameBytes (moduleAt s p .name) n) (eqb (in
         let z : indexOf n s ≡ p = eqb-true (indexOf n s) p f in
         let g : find n s ≡ some (moduleAt s p) = subst (λ (x : ℕ). find n s ≡ some (moduleAt s x)) z (find-at n s l) in
         true≠false (→same (sym (find-mem n s (moduleAt s p) g .1))) e
-
--- ---- the array of positions
-
--- the next to be resolved
-pub next-at : (s : List Descriptor) (order : List ℕ) (head tail : ℕ) → head < tail → tail ≤ length order
-    → map (moduleAt s) (slice head tail order) ≡ moduleAt s (getD order head 0) ∷ map (moduleAt s) (slice (suc head) tail order)
-next-at s order head tail h k = ap (map (moduleAt s)) (slice-cons head tail order 0 h k)
-
--- and resolved
-pub resolved-at : (s : List Descriptor) (order : List ℕ) (head : ℕ) → head < length order
-    → map (moduleAt s) (take (suc head) order) ≡ map (moduleAt s) (take head order) ++ (moduleAt s (getD order head 0) ∷ [])
-resolved-at s order head h = ap (map (moduleAt s)) (take-suc order head 0 h) ∙ map-append (moduleAt s) (take head order) (getD order head 0 ∷ [])
-
--- one more that waits
-pub push-at : (s : List Descriptor) (order : List ℕ) (head tail i : ℕ) (halt : Option Item) → head ≤ tail → tail < length order
-    → shortAt s (set order tail i) head (suc tail) halt
-    ≡ record { resolved = map (moduleAt s) (take head order); line = record { todo = map (moduleAt s) (slice head tail order) ++ (moduleAt s i ∷ []); halt = halt } }
-unfolding shortAt
-push-at s order head tail i halt h k =
-    let low : take head (set order tail i) ≡ take head order = take-set-le head order tail i h in
-    let n : length (take tail order) ≡ tail = length-take-le tail order (omega arith) in
-    let high : slice head (suc tail) (set order tail i) ≡ slice head tail order ++ (i ∷ [])
-    = ap (drop head) (take-suc-set order tail i k) ∙ drop-append-le head (take tail order) (i ∷ []) (omega arith) in
-    rw (low, high, map-append (moduleAt s) (slice head tail order) (i ∷ []))

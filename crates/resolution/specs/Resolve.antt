@@ -42,7 +42,7 @@ startIn s p = getD (checkSet s .starts) p 0
 
 -- 5: "The name of refusal 5 is handed back as a part of the request or of the set". An RT has the name behind a length byte, an
 -- RQ behind two bytes of flags and a length byte. The last two do not occur: an absent java.base is 6, and a provider is a
--- module of the set.
+-- module of the set; `absent-name-is` shows that the bytes told are the absent name.
 unfoldable pub absentOf : List ℕ → List ℕ → ℕ → Place → ModuleError
 absentOf s q n (root i) = ModuleNotFound Input.Request (bodyStart (nthIn Kind.Root i 0 (records q)) + 1) n
 absentOf s q n (required p j) = ModuleNotFound Input.Set (bodyStart (nthIn Kind.Requires j (startIn s p) (records (getD (blocks s) p []))) + 3) n
@@ -54,7 +54,7 @@ unfoldable pub splitOf : List ℕ → Name → ℕ → ℕ → ModuleError
 splitOf s n owner second =
     SplitPackage (bodyStart (firstIn Kind.Package (n ∷ []) (startIn s second) (records (getD (blocks s) second []))) + 1) (length n) owner second
 
--- `ranOut` does not occur
+-- `ranOut` does not occur: `never-out`
 unfoldable pub errorOf : List ℕ → List ℕ → Refusal → ModuleError
 errorOf s q (moduleNotFound n p) = absentOf s q (length n) p
 errorOf s q javaBaseNotFound = JavaBaseNotFound

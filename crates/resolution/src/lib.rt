@@ -1,4 +1,4 @@
-// Resolution over module positions: rows of bits, the configuration, and what transitive requirements reach.
+// Resolution: which modules of a set start for a request, whom each reads, and who owns a package.
 pub mod absent;
 pub mod configuration;
 mod configure;
