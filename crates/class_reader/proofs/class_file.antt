@@ -1,0 +1,9 @@
+pub mod Fields
+pub mod Inner
+pub mod Items
+pub mod Lowest
+pub mod PackageTable
+pub mod Passes
+pub mod Reading
+pub mod Sets
+pub mod Writing

@@ -1,0 +1,50 @@
+use Rattle.class_reader.proofs.measure.Laws.{rest-laws}
+use borrow.Author.Needs.{needs}
+use Rattle.class_reader.proofs.measure.rest_size.Statement.{statement}
+use Rattle.class_reader.proofs.measure.rest_size.Tie as tie
+
+pub rest-size-spec : {M : Type 1} → statement M
+rest-size-spec =
+    tie.close
+    (tie.spec
+    (λ c. search (rest-laws, needs))
+    (λ c. search (rest-laws, needs))
+    (λ c κs. search (rest-laws, needs))
+    (λ c κs. search (rest-laws, needs))
+    (λ c κs. search (rest-laws, needs))
+    (λ c. search (rest-laws, needs))
+    (λ c κs. search (rest-laws, needs))
+    (λ c κs. search (rest-laws, needs))
+    (λ c. search (rest-laws, needs))
+    (λ c κs. search (rest-laws, needs))
+    (λ c. search (rest-laws, needs))
+    (λ c. search (rest-laws, needs))
+    (λ c κs. search (rest-laws, needs))
+    (λ c κs. search (rest-laws, needs))
+    (λ c κs. search (rest-laws, needs))
+    (λ c. search (rest-laws, needs))
+    (λ c. search (rest-laws, needs))
+    (λ c κs. search (rest-laws, needs))
+    (λ c. search (rest-laws, needs))
+    (λ c κs. search (rest-laws, needs))
+    (λ c. search (rest-laws, needs))
+    (λ c. search (rest-laws, needs))
+    (λ c κs. search (rest-laws, needs))
+    (λ c. search (rest-laws, needs))
+    (λ c κs. search (rest-laws, needs))
+    (λ c. search (rest-laws, needs))
+    (λ c. search (rest-laws, needs))
+    (λ c. search (rest-laws, needs))
+    (λ c κs. search (rest-laws, needs))
+    (λ c. search (rest-laws, needs))
+    (λ c κs. search (rest-laws, needs))
+    (λ c. search (rest-laws, needs))
+    (λ c. search (rest-laws, needs))
+    (λ c. search (rest-laws, needs))
+    (λ c. search (rest-laws, needs))
+    (λ c. search (rest-laws, needs))
+    (λ c. search (rest-laws, needs))
+    (λ c. search (rest-laws, needs))
+    (λ c. search (rest-laws, needs))
+    (λ c. search (rest-laws, needs))
+    (λ c. search (rest-laws, needs)))

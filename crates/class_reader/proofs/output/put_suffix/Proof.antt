@@ -1,0 +1,50 @@
+use Rattle.class_reader.proofs.output.Parts.{module-short, module-room, requires-short, requires-room, exports-room, opens-room, provides-room, module-put, requires-put, exports-put, opens-put, uses-put, provides-put, package-put, main-put}
+use borrow.Author.Needs.{needs}
+use Rattle.class_reader.proofs.output.put_suffix.Statement.{statement}
+use Rattle.class_reader.proofs.output.put_suffix.Tie as tie
+
+pub put-suffix-spec : {M : Type 1} → statement M
+put-suffix-spec =
+    tie.close
+    (tie.spec
+    (λ c. search needs)
+    (λ c. search needs)
+    (λ c κs. search needs)
+    (λ c κs. search needs)
+    (λ c κs. search (module-room, module-short))
+    (λ c. search needs)
+    (λ c. search needs)
+    (λ c κs. search needs)
+    (λ c κs. search needs)
+    (λ c κs. search (requires-room, requires-short))
+    (λ c. search needs)
+    (λ c. search needs)
+    (λ c κs. search needs)
+    (λ c. search needs)
+    (λ c κs. search exports-room)
+    (λ c. search needs)
+    (λ c. search needs)
+    (λ c κs. search needs)
+    (λ c. search needs)
+    (λ c κs. search opens-room)
+    (λ c. search needs)
+    (λ c. search needs)
+    (λ c. search needs)
+    (λ c κs. search needs)
+    (λ c. search needs)
+    (λ c κs. search provides-room)
+    (λ c. search needs)
+    (λ c. search needs)
+    (λ c. search needs)
+    (λ c. search module-put)
+    (λ c. search needs)
+    (λ c. search requires-put)
+    (λ c. search needs)
+    (λ c. search exports-put)
+    (λ c. search needs)
+    (λ c. search opens-put)
+    (λ c. search uses-put)
+    (λ c. search needs)
+    (λ c. search provides-put)
+    (λ c. search package-put)
+    (λ c. search main-put))
