@@ -25,10 +25,19 @@ fn refused(e: ModuleError) {
     }
 }
 
-// Writes the records to the file.
+// Writes the records to the file, which is made or overwritten.
 fn store(file: &[u8], records: &[u8]) {
-    if files::store(file, b"describe: cannot write OUT", records) {
+    let fd = os::open_overwrite(file);
+    if fd < 0 {
+        os::fail(b"describe: cannot write OUT");
+        return;
+    }
+    let is_written = io::write_all(fd, records);
+    libc::close(fd);
+    if is_written {
         line(b"written ", records.len());
+    } else {
+        os::fail(b"describe: cannot write OUT");
     }
 }
 

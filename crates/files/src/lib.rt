@@ -36,19 +36,3 @@ pub fn load(file: &[u8], message: &[u8], buffer: &mut [u8]) -> Loaded
     libc::close(fd);
     Loaded { len, is_read }
 }
-
-// Writes the bytes to the file, which is made or overwritten. Where it cannot be written, the message goes to standard error,
-// with the reason.
-pub fn store(file: &[u8], message: &[u8], bytes: &[u8]) -> bool {
-    let fd = os::open_overwrite(file);
-    if fd < 0 {
-        os::fail(message);
-        return false;
-    }
-    let is_written = io::write_all(fd, bytes);
-    if !is_written {
-        os::fail(message);
-    }
-    libc::close(fd);
-    is_written
-}
