@@ -1,0 +1,79 @@
+/* The C functions of the crate host: `rt staticlib host` writes target/staticlib/libhost.a with them.
+ *
+ * A slice is a pointer and a length; a slice of length 0 may have any pointer that is not null and is aligned. No two slices of
+ * one call may overlap where one of them is written.
+ *
+ * Each function returns 0 for an answer, else the number of a refusal (document 01), and always writes all four words of
+ * particulars, unused ones as 0:
+ *   0   what the function answers
+ *   1   which input is malformed (0 set, 1 request, 2 package records), the offset of the record
+ *   2   the offset of the record, or 0
+ *   3   the offset of the record
+ *   4   how many bytes or words are needed
+ *   5   which input has the absent name (0 set, 1 request), where it starts, its length
+ *   6   nothing
+ *   7   where the package's name starts in the set, its length, the positions of its owner and of the second module
+ *   8   the offset of the fault
+ *   9, 10   nothing
+ * Nothing but the particulars is written on a refusal.
+ *
+ * A configuration is 1,032 words: 4 of members, 1,024 of read edges, four words for each position, and 4 of the modules that read
+ * ALL-UNNAMED. The bit of position i is bit i % 64 of word i / 64. Words past the first 1,032 are neither read nor written. Where
+ * a function takes them to read, fewer are number 4 before anything else is looked at.
+ */
+#ifndef SAQHOVUNE_H
+#define SAQHOVUNE_H
+
+#include <stdbool.h>
+#include <stddef.h>
+#include <stdint.h>
+
+#define SAQHOVUNE_WORDS 1032
+
+/* Checks a set and a request (1 to 3). Answers the number of modules. */
+uint64_t saqhovune_check(const uint8_t *set, size_t set_len, const uint8_t *request, size_t request_len,
+                         uint64_t particulars[4]);
+
+/* Resolves a set and a request (1 to 7, then 4) into the first 1,032 words. Answers the number of resolved modules. */
+uint64_t saqhovune_resolve(const uint8_t *set, size_t set_len, const uint8_t *request, size_t request_len, uint64_t *words,
+                           size_t words_len, uint64_t particulars[4]);
+
+/* Whether the asker may use the package of the target (4, 1 to 3). Answers 0 Allowed, 1 NotReadable or 2 NotExported. */
+uint64_t saqhovune_check_access(const uint8_t *set, size_t set_len, const uint8_t *request, size_t request_len,
+                                const uint64_t *words, size_t words_len, const uint8_t *asker, size_t asker_len,
+                                const uint8_t *target, size_t target_len, const uint8_t *package, size_t package_len,
+                                uint64_t particulars[4]);
+
+/* The same for reflection. Answers 0 Allowed, 1 NotReadable or 3 NotOpened. */
+uint64_t saqhovune_check_reflection_access(const uint8_t *set, size_t set_len, const uint8_t *request, size_t request_len,
+                                           const uint64_t *words, size_t words_len, const uint8_t *asker, size_t asker_len,
+                                           const uint8_t *target, size_t target_len, const uint8_t *package,
+                                           size_t package_len, uint64_t particulars[4]);
+
+/* Whether a module can read another (4, 1 to 3 of the set). Answers 1 or 0. */
+uint64_t saqhovune_can_read(const uint8_t *set, size_t set_len, const uint64_t *words, size_t words_len, const uint8_t *from,
+                            size_t from_len, const uint8_t *to, size_t to_len, uint64_t particulars[4]);
+
+/* The owner of a package (4, 1 to 3 of the set). Answers 1 and the owner's position, or 0. */
+uint64_t saqhovune_find_module_for_package(const uint8_t *set, size_t set_len, const uint64_t *words, size_t words_len,
+                                           const uint8_t *package, size_t package_len, uint64_t particulars[4]);
+
+/* The members that read the module of this name (4, 1 to 3 of the set), as a row of positions. Answers 0. */
+uint64_t saqhovune_readers_of(const uint8_t *set, size_t set_len, const uint64_t *words, size_t words_len, const uint8_t *name,
+                              size_t name_len, uint64_t row[4], uint64_t particulars[4]);
+
+/* What one read edge or more lead to from the module of this name (4, 1 to 3 of the set), as a row of positions. Answers 1 where
+ * ALL-UNNAMED is among them, else 0. */
+uint64_t saqhovune_transitive_reads(const uint8_t *set, size_t set_len, const uint64_t *words, size_t words_len,
+                                    const uint8_t *name, size_t name_len, uint64_t row[4], uint64_t particulars[4]);
+
+/* Writes the records of the module that a class file describes (2, 8, 2, 4). Answers the number of bytes written. */
+uint64_t saqhovune_from_class_file(const uint8_t *file, size_t file_len, uint8_t *out, size_t out_len, uint64_t particulars[4]);
+
+/* Writes the records of an automatic module (2, 1, 9, 10, 4). `given` says whether the manifest names it. Answers the number of
+ * bytes written. */
+uint64_t saqhovune_automatic_from_jar_name(const uint8_t *jar, size_t jar_len, bool given, const uint8_t *manifest,
+                                           size_t manifest_len, const uint8_t *packages, size_t packages_len, uint8_t *out,
+                                           size_t out_len, uint64_t particulars[4]);
+
+#endif

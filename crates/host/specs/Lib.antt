@@ -1,0 +1,5 @@
+-- The definitions that the contracts cite.
+pub mod Host
+pub mod Reader
+pub mod Reply
+pub mod Words

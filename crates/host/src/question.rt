@@ -1,0 +1,148 @@
+// Questions over the words of a configuration.
+ghost use mathlib.Core.Path.{_≡_};
+ghost use mathlib.Core.Bool.{true, false};
+ghost use Rattle.resolution.specs.PackageOwner.{findModuleForPackage};
+ghost use Rattle.access.specs.Access.{checkAccess};
+ghost use Rattle.access.specs.CanRead.{canRead};
+ghost use Rattle.host.specs.Host.{overWords, verdictNumber, accessReply, readReply, ownerReply};
+ghost use Rattle.host.specs.Reply.{Told};
+ghost use Rattle.host.specs.Words.{configurationOf};
+use crate::reply::answer;
+use crate::reply::answer_two;
+use crate::reply::refuse;
+use crate::reply::too_few;
+use crate::words::configuration;
+use access::access::AccessAnswer;
+use access::access::AccessCheckResult;
+use access::access::ReadAnswer;
+use access::access::can_read;
+use access::access::check_access;
+use access::access::check_reflection_access;
+use resolution::owner::Owner;
+use resolution::owner::find_module_for_package;
+
+// The number of a verdict.
+fn verdict(v: AccessCheckResult) -> usize
+    ensures { λ r. ⌜ r ≡ verdictNumber v ⌝ }
+{
+    match v {
+        AccessCheckResult::Allowed => 0,
+        AccessCheckResult::NotReadable => 1,
+        AccessCheckResult::NotExported => 2,
+        AccessCheckResult::NotOpened => 3,
+    }
+}
+
+fn tell_access(a: AccessAnswer, particulars: &mut [u64; 4]) -> u64
+    ensures { λ r. ⌜ Told (accessReply a) (now (particulars .exit)) r ⌝ }
+{
+    match a {
+        AccessAnswer::Verdict(v) => answer(particulars, verdict(v)),
+        AccessAnswer::Refused(e) => refuse(particulars, e),
+    }
+}
+
+// Whether the asker may use the package of the target. The answer is a verdict: 0 Allowed, 1 NotReadable, 2 NotExported.
+#[no_mangle]
+pub extern "C" fn saqhovune_check_access(
+    set: &[u8],
+    request: &[u8],
+    words: &[u64],
+    asker: &[u8],
+    target: &[u8],
+    pkg: &[u8],
+    particulars: &mut [u64; 4],
+) -> u64
+    ensures { λ r. ⌜ Told (overWords (now (words .entry)) (accessReply (checkAccess false (now (set .entry)) (now (request .entry)) (configurationOf (now (words .entry))) (now (asker .entry)) (now (target .entry)) (now (pkg .entry))))) (now (particulars .exit)) r ⌝ }
+{
+    if words.len() < 1032 {
+        return too_few(particulars, 1032);
+    }
+    let c = configuration(words);
+    tell_access(
+        check_access(set, request, c, asker, target, pkg),
+        particulars,
+    )
+}
+
+// The same for reflection. The answer is a verdict: 0 Allowed, 1 NotReadable, 3 NotOpened.
+#[no_mangle]
+pub extern "C" fn saqhovune_check_reflection_access(
+    set: &[u8],
+    request: &[u8],
+    words: &[u64],
+    asker: &[u8],
+    target: &[u8],
+    pkg: &[u8],
+    particulars: &mut [u64; 4],
+) -> u64
+    ensures { λ r. ⌜ Told (overWords (now (words .entry)) (accessReply (checkAccess true (now (set .entry)) (now (request .entry)) (configurationOf (now (words .entry))) (now (asker .entry)) (now (target .entry)) (now (pkg .entry))))) (now (particulars .exit)) r ⌝ }
+{
+    if words.len() < 1032 {
+        return too_few(particulars, 1032);
+    }
+    let c = configuration(words);
+    tell_access(
+        check_reflection_access(set, request, c, asker, target, pkg),
+        particulars,
+    )
+}
+
+fn tell_read(a: ReadAnswer, particulars: &mut [u64; 4]) -> u64
+    ensures { λ r. ⌜ Told (readReply a) (now (particulars .exit)) r ⌝ }
+{
+    match a {
+        ReadAnswer::Reads(b) => {
+            if b {
+                return answer(particulars, 1);
+            }
+            answer(particulars, 0)
+        }
+        ReadAnswer::Refused(e) => refuse(particulars, e),
+    }
+}
+
+// Whether a module can read another. The answer is 1 or 0.
+#[no_mangle]
+pub extern "C" fn saqhovune_can_read(
+    set: &[u8],
+    words: &[u64],
+    from: &[u8],
+    to: &[u8],
+    particulars: &mut [u64; 4],
+) -> u64
+    ensures { λ r. ⌜ Told (overWords (now (words .entry)) (readReply (canRead (now (set .entry)) (configurationOf (now (words .entry))) (now (from .entry)) (now (to .entry))))) (now (particulars .exit)) r ⌝ }
+{
+    if words.len() < 1032 {
+        return too_few(particulars, 1032);
+    }
+    let c = configuration(words);
+    tell_read(can_read(set, c, from, to), particulars)
+}
+
+fn tell_owner(a: Owner, particulars: &mut [u64; 4]) -> u64
+    ensures { λ r. ⌜ Told (ownerReply a) (now (particulars .exit)) r ⌝ }
+{
+    match a {
+        Owner::At(i) => answer_two(particulars, 1, i),
+        Owner::Nothing => answer(particulars, 0),
+        Owner::Refused(e) => refuse(particulars, e),
+    }
+}
+
+// The owner of a package. The answer is 1 and the owner's position, or 0.
+#[no_mangle]
+pub extern "C" fn saqhovune_find_module_for_package(
+    set: &[u8],
+    words: &[u64],
+    pkg: &[u8],
+    particulars: &mut [u64; 4],
+) -> u64
+    ensures { λ r. ⌜ Told (overWords (now (words .entry)) (ownerReply (findModuleForPackage (now (set .entry)) (configurationOf (now (words .entry))) (now (pkg .entry))))) (now (particulars .exit)) r ⌝ }
+{
+    if words.len() < 1032 {
+        return too_few(particulars, 1032);
+    }
+    let c = configuration(words);
+    tell_owner(find_module_for_package(set, c, pkg), particulars)
+}
