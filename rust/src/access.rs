@@ -1,0 +1,120 @@
+//! Questions over a configuration.
+use crate::configuration::Configuration;
+use crate::raw;
+use crate::refusal::{told, Refusal};
+
+/// The answer to a question.
+#[derive(Clone, Copy, Debug, PartialEq, Eq)]
+pub enum Verdict {
+    /// The asker may.
+    Allowed,
+    /// The asker does not read the target.
+    NotReadable,
+    /// The target does not export the package to the asker.
+    NotExported,
+    /// The target does not open the package to the asker.
+    NotOpened,
+}
+
+impl Verdict {
+    fn of(number: u64) -> Self {
+        match number {
+            0 => Verdict::Allowed,
+            1 => Verdict::NotReadable,
+            2 => Verdict::NotExported,
+            3 => Verdict::NotOpened,
+            n => unreachable!("the library has no verdict {n}"),
+        }
+    }
+}
+
+/// Whether the asker may use the package of the target (1 to 3).
+pub fn check_access(
+    set: &[u8],
+    request: &[u8],
+    configuration: &Configuration,
+    asker: &[u8],
+    target: &[u8],
+    package: &[u8],
+) -> Result<Verdict, Refusal> {
+    ask(raw::saqhovune_check_access, set, request, configuration, [asker, target, package])
+}
+
+/// Whether the asker may use the package of the target by reflection (1 to 3).
+pub fn check_reflection_access(
+    set: &[u8],
+    request: &[u8],
+    configuration: &Configuration,
+    asker: &[u8],
+    target: &[u8],
+    package: &[u8],
+) -> Result<Verdict, Refusal> {
+    ask(raw::saqhovune_check_reflection_access, set, request, configuration, [asker, target, package])
+}
+
+fn ask(
+    function: raw::Question,
+    set: &[u8],
+    request: &[u8],
+    configuration: &Configuration,
+    [asker, target, package]: [&[u8]; 3],
+) -> Result<Verdict, Refusal> {
+    let words = configuration.words();
+    // SAFETY: each pointer is that of a slice with the length beside it, and the particulars have four words.
+    let answer = told(|particulars| unsafe {
+        function(
+            set.as_ptr(),
+            set.len(),
+            request.as_ptr(),
+            request.len(),
+            words.as_ptr(),
+            words.len(),
+            asker.as_ptr(),
+            asker.len(),
+            target.as_ptr(),
+            target.len(),
+            package.as_ptr(),
+            package.len(),
+            particulars,
+        )
+    })?;
+    Ok(Verdict::of(answer[0]))
+}
+
+/// Whether a module can read another (1 to 3 of the set).
+pub fn can_read(set: &[u8], configuration: &Configuration, from: &[u8], to: &[u8]) -> Result<bool, Refusal> {
+    let words = configuration.words();
+    // SAFETY: as above.
+    let answer = told(|particulars| unsafe {
+        raw::saqhovune_can_read(
+            set.as_ptr(),
+            set.len(),
+            words.as_ptr(),
+            words.len(),
+            from.as_ptr(),
+            from.len(),
+            to.as_ptr(),
+            to.len(),
+            particulars,
+        )
+    })?;
+    Ok(answer[0] == 1)
+}
+
+/// The position of the member that owns a package, if one does (1 to 3 of the set).
+pub fn find_module_for_package(set: &[u8], configuration: &Configuration, package: &[u8]) -> Result<Option<usize>, Refusal> {
+    let words = configuration.words();
+    // SAFETY: as above.
+    let answer = told(|particulars| unsafe {
+        raw::saqhovune_find_module_for_package(
+            set.as_ptr(),
+            set.len(),
+            words.as_ptr(),
+            words.len(),
+            package.as_ptr(),
+            package.len(),
+            particulars,
+        )
+    })?;
+    Ok((answer[0] == 1).then_some(answer[1] as usize))
+}

@@ -1,0 +1,149 @@
+//! The byte form of sets and requests: records to write, and a walk over those of an input.
+//!
+//! A set is the concatenation of [`module`] records, each with the records that belong to it; a request is that of its
+//! records. Nothing is checked here but lengths; [`crate::check`] does that.
+
+/// A requirement that is read by whoever reads its module.
+pub const TRANSITIVE: u16 = 0x0020;
+/// A requirement that may be absent.
+pub const STATIC: u16 = 0x0040;
+/// An open module.
+pub const OPEN: u16 = 0x0020;
+
+/// A name behind its length.
+///
+/// # Panics
+/// If it is longer than 255 bytes.
+pub fn name(text: &str) -> Vec<u8> {
+    let length = u8::try_from(text.len()).expect("a name has at most 255 bytes");
+    [&[length], text.as_bytes()].concat()
+}
+
+/// A list of names behind their count.
+fn list(names: &[&str]) -> Vec<u8> {
+    let count = u16::try_from(names.len()).expect("a list has at most 65,535 names");
+    names.iter().fold(count.to_be_bytes().to_vec(), |out, n| [out, name(n)].concat())
+}
+
+/// A record.
+///
+/// # Panics
+/// If its body is longer than 65,535 bytes.
+pub fn record(mark: &[u8; 2], body: &[u8]) -> Vec<u8> {
+    let length = u16::try_from(body.len()).expect("a body has at most 65,535 bytes");
+    [&mark[..], &length.to_be_bytes(), body].concat()
+}
+
+/// A module (MO); an empty version is none.
+pub fn module_with(n: &str, flags: u16, automatic: bool, version: &str) -> Vec<u8> {
+    let [high, low] = flags.to_be_bytes();
+    record(b"MO", &[&[high, low, u8::from(automatic)], &name(n)[..], &name(version)].concat())
+}
+
+/// A module that is neither open nor automatic, without version.
+pub fn module(n: &str) -> Vec<u8> {
+    module_with(n, 0, false, "")
+}
+
+/// A requirement (RQ); an empty version is none.
+pub fn requires_with(n: &str, flags: u16, version: &str) -> Vec<u8> {
+    record(b"RQ", &[&flags.to_be_bytes()[..], &name(n), &name(version)].concat())
+}
+
+/// A requirement without version.
+pub fn requires(n: &str, flags: u16) -> Vec<u8> {
+    requires_with(n, flags, "")
+}
+
+/// An export (EX); no target means all.
+pub fn exports(package: &str, targets: &[&str]) -> Vec<u8> {
+    record(b"EX", &[name(package), list(targets)].concat())
+}
+
+/// An opening (OP); no target means all.
+pub fn opens(package: &str, targets: &[&str]) -> Vec<u8> {
+    record(b"OP", &[name(package), list(targets)].concat())
+}
+
+/// A used service (US).
+pub fn uses(service: &str) -> Vec<u8> {
+    record(b"US", &name(service))
+}
+
+/// A provided service (PV).
+pub fn provides(service: &str, implementations: &[&str]) -> Vec<u8> {
+    record(b"PV", &[name(service), list(implementations)].concat())
+}
+
+/// A package (PK).
+pub fn package(p: &str) -> Vec<u8> {
+    record(b"PK", &name(p))
+}
+
+/// A main class (MC).
+pub fn main_class(class: &str) -> Vec<u8> {
+    record(b"MC", &name(class))
+}
+
+/// A root (RT).
+pub fn root(n: &str) -> Vec<u8> {
+    record(b"RT", &name(n))
+}
+
+/// The permitted names (LM).
+pub fn limit(names: &[&str]) -> Vec<u8> {
+    record(b"LM", &list(names))
+}
+
+/// A read edge to be added (AR).
+pub fn add_read(source: &str, target: &str) -> Vec<u8> {
+    record(b"AR", &[name(source), name(target)].concat())
+}
+
+/// An export to be added (AE).
+pub fn add_export(source: &str, package: &str, target: &str) -> Vec<u8> {
+    record(b"AE", &[name(source), name(package), name(target)].concat())
+}
+
+/// An opening to be added (AO).
+pub fn add_open(source: &str, package: &str, target: &str) -> Vec<u8> {
+    record(b"AO", &[name(source), name(package), name(target)].concat())
+}
+
+/// A record of an input.
+#[derive(Clone, Copy, Debug, PartialEq, Eq)]
+pub struct Record<'a> {
+    /// The offset of its mark.
+    pub offset: usize,
+    /// Its mark.
+    pub mark: &'a [u8],
+    /// Its body.
+    pub body: &'a [u8],
+}
+
+/// The records of an input, front to back, up to one that is cut off. Their bodies are not checked.
+pub fn records(bytes: &[u8]) -> impl Iterator<Item = Record<'_>> {
+    let mut offset = 0;
+    std::iter::from_fn(move || {
+        let (head, rest) = bytes.get(offset..)?.split_at_checked(4)?;
+        let body = rest.get(..usize::from(u16::from_be_bytes([head[2], head[3]])))?;
+        let record = Record { offset, mark: &head[..2], body };
+        offset += 4 + body.len();
+        Some(record)
+    })
+}
+
+/// The name of the module that a record starts, if it is an MO.
+pub(crate) fn name_of<'a>(record: &Record<'a>) -> Option<&'a [u8]> {
+    let (&length, rest) = record.body.get(3..)?.split_first()?;
+    if record.mark == b"MO" {
+        rest.get(..length.into())
+    } else {
+        None
+    }
+}
+
+/// The names of a set's modules, in the order of their positions.
+pub fn module_names(set: &[u8]) -> impl Iterator<Item = &[u8]> {
+    records(set).filter_map(|r| name_of(&r))
+}

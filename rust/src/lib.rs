@@ -1,0 +1,38 @@
+//! Safe calls into the proved library: which modules of a set start for a request, which module may see which package, and
+//! the records that a class file or a jar gives.
+//!
+//! A set and a request are byte strings of records ([`form`] writes them). Every call answers, or ends with a [`Refusal`] and
+//! leaves a lent output as it was. A module is told by its position in the set, from 0; [`form::module_names`] lists the names
+//! in that order.
+//!
+//! ```
+//! use saqhovune::form::{exports, module, module_names, package, requires, root};
+//! let base = module("java.base"); // or from_class_file_vec(&module_info)?, or automatic_from_jar_name_vec(..)?
+//! let foot = [module("page.foot"), requires("page.frames", 0)].concat();
+//! let frames = [module("page.frames"), package("page/frame"), exports("page/frame", &[])].concat();
+//! let (set, request) = ([base, foot, frames].concat(), root("page.foot"));
+//! let resolved = saqhovune::resolve(&set, &request).unwrap_or_else(|e| panic!("{}", e.message(&set, &request)));
+//! for (position, name) in module_names(&set).enumerate().filter(|(i, _)| resolved.configuration.contains(*i)) {
+//!     println!("{position} {} starts", String::from_utf8_lossy(name));
+//! }
+//! let may = saqhovune::check_access(&set, &request, &resolved.configuration, b"page.foot", b"page.frames", b"page/frame");
+//! assert_eq!((resolved.count, may), (3, Ok(saqhovune::Verdict::Allowed)));
+//! ```
+#![warn(missing_docs)]
+
+mod access;
+mod configuration;
+pub mod form;
+mod graph;
+mod message;
+mod raw;
+mod reader;
+mod refusal;
+mod resolve;
+
+pub use access::{can_read, check_access, check_reflection_access, find_module_for_package, Verdict};
+pub use configuration::{Configuration, Row, WORDS};
+pub use graph::{readers_of, transitive_reads};
+pub use reader::{automatic_from_jar_name, automatic_from_jar_name_vec, from_class_file, from_class_file_vec};
+pub use refusal::{Input, Refusal};
+pub use resolve::{check, resolve, resolve_into, Resolved};

@@ -1,0 +1,123 @@
+//! Resolution and questions, on the listing of document 01.
+use saqhovune::form::*;
+use saqhovune::*;
+
+fn set() -> Vec<u8> {
+    [
+        module("java.base"),
+        package("java/lang"),
+        module("page.core"),
+        requires("page.frames", TRANSITIVE),
+        uses("page/Reader"),
+        module("page.foot"),
+        requires("page.frames", 0),
+        provides("page/Reader", &[]),
+        package("page/foot"),
+        module("page.frames"),
+        package("page/frame"),
+        exports("page/frame", &["page.foot"]),
+    ]
+    .concat()
+}
+
+fn resolved() -> Configuration {
+    resolve(&set(), &root("page.core")).unwrap().configuration
+}
+
+fn names(row: Row) -> Vec<String> {
+    let set = set();
+    let all: Vec<&[u8]> = module_names(&set).collect();
+    row.positions().map(|i| String::from_utf8_lossy(all[i]).into_owned()).collect()
+}
+
+#[test]
+fn listing() {
+    let set = set();
+    let names: Vec<&[u8]> = module_names(&set).collect();
+    assert_eq!(names, [b"java.base".as_slice(), b"page.core", b"page.foot", b"page.frames"]);
+    assert_eq!(check(&set, &root("page.core")), Ok(4));
+    let r = resolve(&set, &root("page.core")).unwrap();
+    let c = &r.configuration;
+    assert_eq!((r.count, c.len(), c.is_empty()), (4, 4, false));
+    assert_eq!(c.members().collect::<Vec<_>>(), [0, 1, 2, 3]);
+    let edges: Vec<_> = (0..256).flat_map(|i| (0..256).map(move |j| (i, j))).filter(|&(i, j)| c.reads(i, j)).collect();
+    assert_eq!(edges, [(1, 0), (1, 3), (2, 0), (2, 3), (3, 0)]);
+    assert!((0..256).all(|i| !c.reads_unnamed(i)));
+    let owner = |p: &str| find_module_for_package(&set, c, p.as_bytes());
+    assert_eq!(owner("java/lang"), Ok(Some(0)));
+    assert_eq!(owner("page/foot"), Ok(Some(2)));
+    assert_eq!(owner("page/frame"), Ok(Some(3)));
+    assert_eq!(owner("page"), Ok(None));
+}
+
+#[test]
+fn listed_is_not_started() {
+    let c = resolve(&set(), &root("page.frames")).unwrap().configuration;
+    assert_eq!(c.members().collect::<Vec<_>>(), [0, 3]);
+    assert_eq!(find_module_for_package(&set(), &c, b"page/foot"), Ok(None));
+}
+
+#[test]
+fn unnamed_and_cycles() {
+    let set = [module("java.base"), module("a"), requires("b", TRANSITIVE), module("b"), requires("a", TRANSITIVE)].concat();
+    let c = resolve(&set, &[root("a"), add_read("b", "ALL-UNNAMED")].concat()).unwrap().configuration;
+    assert!(c.reads(1, 1) && c.reads(2, 2));
+    assert_eq!((c.reads_unnamed(1), c.reads_unnamed(2)), (false, true));
+    assert!(transitive_reads(&set, &c, b"a").unwrap().contains_unnamed());
+    assert_eq!(readers_of(&set, &c, b"ALL-UNNAMED").unwrap().positions().collect::<Vec<_>>(), [2]);
+}
+
+#[test]
+fn positions_past_the_last() {
+    let c = resolved();
+    for i in [4, 255, 256, usize::MAX] {
+        assert!(!c.contains(i) && !c.reads(i, 0) && !c.reads(0, i) && !c.reads_unnamed(i));
+    }
+}
+
+#[test]
+fn verdicts() {
+    let (set, request, c) = (set(), root("page.core"), resolved());
+    let access = |a: &str, t: &str, p: &str| check_access(&set, &request, &c, a.as_bytes(), t.as_bytes(), p.as_bytes()).unwrap();
+    let reflection = |a: &str, t: &str, p: &str| {
+        check_reflection_access(&set, &request, &c, a.as_bytes(), t.as_bytes(), p.as_bytes()).unwrap()
+    };
+    assert_eq!(access("page.foot", "page.frames", "page/frame"), Verdict::Allowed);
+    assert_eq!(access("page.core", "page.frames", "page/frame"), Verdict::NotExported);
+    assert_eq!(access("page.frames", "page.core", "page/core"), Verdict::NotReadable);
+    assert_eq!(access("ALL-UNNAMED", "page.frames", "page/frame"), Verdict::NotExported);
+    assert_eq!(access("", "", ""), Verdict::Allowed);
+    assert_eq!(reflection("page.foot", "page.frames", "page/frame"), Verdict::NotOpened);
+    assert_eq!(reflection("page.frames", "page.core", "page/core"), Verdict::NotReadable);
+    assert_eq!(reflection("page.frames", "page.frames", "page/frame"), Verdict::Allowed);
+
+    let more = [request.clone(), add_open("page.frames", "page/frame", "page.foot")].concat();
+    let verdict = check_reflection_access(&set, &more, &c, b"page.foot", b"page.frames", b"page/frame");
+    assert_eq!(verdict, Ok(Verdict::Allowed));
+}
+
+#[test]
+fn graph() {
+    let (set, c) = (set(), resolved());
+    assert_eq!(can_read(&set, &c, b"page.core", b"page.frames"), Ok(true));
+    assert_eq!(can_read(&set, &c, b"page.frames", b"page.core"), Ok(false));
+    assert_eq!(names(readers_of(&set, &c, b"page.frames").unwrap()), ["page.core", "page.foot"]);
+    assert_eq!(names(transitive_reads(&set, &c, b"page.core").unwrap()), ["java.base", "page.frames"]);
+    assert!(readers_of(&set, &c, b"nobody").unwrap().is_empty());
+    let row = transitive_reads(&set, &c, b"page.frames").unwrap();
+    assert_eq!((row.len(), row.contains(0), row.contains_unnamed()), (1, true, false));
+}
+
+#[test]
+fn lent_words() {
+    let mut words = [7; WORDS + 2];
+    assert_eq!(resolve_into(&set(), &root("page.core"), &mut words), Ok(4));
+    assert_eq!(&words[..WORDS], resolved().words());
+    assert_eq!(words[WORDS..], [7, 7]);
+    for few in [0, 1, WORDS - 1] {
+        let mut words = vec![7; few];
+        let answer = resolve_into(&set(), &root("page.core"), &mut words);
+        assert_eq!(answer, Err(Refusal::OutputTooShort { needed: WORDS }));
+        assert!(words.iter().all(|&w| w == 7));
+    }
+}
