@@ -1,0 +1,120 @@
+//! The original's answers, for the library's inputs.
+use crate::module::descriptor::ModuleDescriptor;
+use crate::module::error::ModuleError;
+use crate::module::finder::SetFinder;
+use crate::module::reference::ModuleReference;
+use crate::module::resolution::{ResolvedConfiguration, ResolvedModule, Resolver};
+use crate::records::{Request, text, write_descriptor};
+use saqhovune::Configuration;
+use std::collections::{BTreeMap, BTreeSet};
+
+/// A set and a request as the original has them.
+pub struct Inputs {
+    pub modules: Vec<ModuleReference>,
+    pub request: Request,
+}
+
+impl Inputs {
+    /// A resolver with what the request says.
+    pub fn resolver(&self) -> Resolver {
+        let mut v = Resolver::new();
+        for (s, t) in &self.request.reads {
+            v.add_read(s.clone(), t.clone());
+        }
+        for (s, p, t) in &self.request.exports {
+            v.add_export(s.clone(), p.clone(), t.clone());
+        }
+        for (s, p, t) in &self.request.opens {
+            v.add_opens(s.clone(), p.clone(), t.clone());
+        }
+        if let Some(l) = &self.request.limit {
+            v.set_limit_modules(l.iter().cloned().collect());
+        }
+        v
+    }
+
+    pub fn resolve(&self) -> Result<ResolvedConfiguration, ModuleError> {
+        self.resolver().resolve(&self.request.roots, &SetFinder { modules: self.modules.clone() })
+    }
+
+    /// The resolution without services, and so without rounds.
+    pub fn resolve_without_rounds(&self) -> Result<ResolvedConfiguration, ModuleError> {
+        let modules = self.modules.iter().map(|m| {
+            let mut d = m.descriptor().clone();
+            d.uses.clear();
+            ModuleReference::new(d, m.source().clone(), None)
+        });
+        self.resolver().resolve(&self.request.roots, &SetFinder { modules: modules.collect() })
+    }
+
+    /// The position of a module.
+    pub fn position(&self, name: &str) -> Option<usize> {
+        self.modules.iter().position(|m| m.name() == name)
+    }
+
+    pub fn has_package(&self, name: &str, package: &str) -> bool {
+        self.position(name).is_some_and(|i| self.modules[i].descriptor().packages.contains(package))
+    }
+
+    /// Whether a refusal of the original names something that is so.
+    pub fn is_true(&self, cause: &ModuleError) -> bool {
+        match cause {
+            ModuleError::ModuleNotFound(n) if n == "java.base" => self.position(n).is_none(),
+            ModuleError::ModuleNotFound(n) => {
+                let required = |m: &ModuleReference| m.descriptor().requires.iter().any(|r| &r.name == n && !r.is_static());
+                self.position(n).is_none() && (self.request.roots.contains(n) || self.modules.iter().any(required))
+            }
+            ModuleError::SplitPackage { package, module1, module2 } => {
+                module1 != module2 && self.has_package(module1, package) && self.has_package(module2, package)
+            }
+            _ => false,
+        }
+    }
+
+    /// A configuration of the library as the original's. The owner of a package is its first member.
+    pub fn configured(&self, configuration: &Configuration) -> ResolvedConfiguration {
+        let mut resolved = BTreeMap::new();
+        let mut owners = ahash::AHashMap::default();
+        for (i, reference) in self.modules.iter().enumerate().filter(|(i, _)| configuration.contains(*i)) {
+            for p in &reference.descriptor().packages {
+                owners.entry(p.clone()).or_insert(reference.name().to_string());
+            }
+            let mut m = ResolvedModule::new(reference.clone());
+            for (_, to) in self.modules.iter().enumerate().filter(|(j, _)| configuration.reads(i, *j)) {
+                m.add_read(to.name().to_string());
+            }
+            if configuration.reads_unnamed(i) {
+                m.add_read("ALL-UNNAMED".to_string());
+            }
+            resolved.insert(reference.name().to_string(), m);
+        }
+        // The resolver keeps its overrides to itself, so they come from a resolution of java.base alone.
+        let base = ModuleReference::system(ModuleDescriptor::new("java.base".into()));
+        let c = self.resolver().resolve(&[], &SetFinder { modules: vec![base] }).expect("java.base alone resolves");
+        ResolvedConfiguration::new(resolved, owners, c.add_exports().clone(), c.add_opens().clone())
+    }
+}
+
+/// The listing of document 01.
+pub fn listing(c: &ResolvedConfiguration) -> String {
+    let mut out = format!("resolved {}\n", c.len());
+    for m in c.modules() {
+        out += &format!("module {}\n", m.name());
+        for r in m.reads() {
+            out += &format!("reads {r}\n");
+        }
+    }
+    let owners: BTreeMap<_, _> = c.package_to_module.iter().collect();
+    for (p, o) in owners {
+        out += &format!("owner {p} {o}\n");
+    }
+    out
+}
+
+/// The records of a jar's module.
+pub fn jar(jar: &str, manifest: Option<&str>, packages: &[String]) -> Result<Vec<u8>, ModuleError> {
+    let packages: BTreeSet<String> = packages.iter().cloned().collect();
+    let mut d = ModuleDescriptor::automatic_from_jar_name(jar, manifest, packages)?;
+    d.name = text(d.name.as_bytes());
+    Ok(write_descriptor(&d, true).expect("the names are short"))
+}

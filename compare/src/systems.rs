@@ -1,0 +1,258 @@
+//! Sets and requests: resolution, questions, the graph.
+use crate::generate::{self, System};
+use crate::module::access::AccessCheck;
+use crate::module::error::ModuleError;
+use crate::module::graph::ModuleGraph;
+use crate::module::resolution::ResolvedConfiguration;
+use crate::original::{Inputs, listing};
+use crate::random::Random;
+use crate::records::{parse_both, text};
+use crate::report::Report;
+use saqhovune::form::{Record, records};
+use saqhovune::{Configuration, Input, Refusal, Row, WORDS};
+use std::collections::BTreeSet;
+
+const PATTERN: u64 = 0x5A5A_A5A5_5A5A_A5A5;
+
+pub fn compare(report: &mut Report, seed: u64, questions: usize) {
+    ahash::set_seed(seed);
+    let r = &mut Random::new(seed);
+    let s = generate::system(r);
+    let (modules, request) = parse_both(&s.set, &s.request).expect("the generator writes well-formed inputs");
+    let inputs = Inputs { modules, request };
+    report.compare("checks", seed, &"", saqhovune::check(&s.set, &s.request), Ok(inputs.modules.len()));
+
+    let mut words = [PATTERN; WORDS + 1];
+    let library = saqhovune::resolve_into(&s.set, &s.request, &mut words);
+    report.hold("words past the last left as they were", seed, &"", words[WORDS] == PATTERN);
+    let mut short = [PATTERN; WORDS - 1];
+    let refused = saqhovune::resolve_into(&s.set, &s.request, &mut short);
+    let expected = library.and(Err(Refusal::OutputTooShort { needed: WORDS }));
+    report.compare("resolutions into too few words", seed, &"", refused, expected);
+    report.hold("too few words left as they were", seed, &"", short == [PATTERN; WORDS - 1]);
+
+    match (library, inputs.resolve()) {
+        (Ok(n), Ok(original)) => {
+            report.count("systems accepted");
+            let c = Configuration::from_words(words[..WORDS].try_into().unwrap());
+            report.compare("numbers of members", seed, &"", (n, c.len()), (original.len(), original.len()));
+            report.compare("listings", seed, &"", listing_of(&s, &c), listing(&original));
+            let others = (0..256).filter(|i| !c.contains(*i));
+            let empty = |i: usize| !c.reads_unnamed(i) && (0..256).all(|j| !c.reads(i, j));
+            report.hold("rows of others than members empty", seed, &"", others.into_iter().all(empty));
+            ask(report, seed, r, &s, &c, &original, questions, "resolved");
+        }
+        (Err(e), Err(cause)) => {
+            report.count(match e {
+                Refusal::ModuleNotFound { .. } => "systems refused (5)",
+                Refusal::JavaBaseNotFound => "systems refused (6)",
+                Refusal::SplitPackage { .. } => "systems refused (7)",
+                _ => "systems refused otherwise",
+            });
+            report.hold("words left as they were on a refusal", seed, &"", words == [PATTERN; WORDS + 1]);
+            report.hold("causes of the library true", seed, &e, cause_is_true(&s, &inputs, &e));
+            report.hold("causes of the original true", seed, &cause, inputs.is_true(&cause));
+            match inputs.resolve_without_rounds() {
+                Err(_) => report.compare("refusals before the rounds", seed, &e, told(&s, &inputs, &e), Some(cause)),
+                Ok(_) => report.count("refusals inside a round (both refuse)"),
+            }
+        }
+        (library, original) => {
+            let original = original.map(|c| c.len());
+            report.compare("outcomes", seed, &original, library.is_ok(), original.is_ok());
+        }
+    }
+
+    let which = if r.chance(50) { Input::Set } else { Input::Request };
+    damaged(report, seed, r, &s, which);
+    let any = Configuration::from_words(generate::words(r));
+    let original = inputs.configured(&any);
+    ask(report, seed, r, &s, &any, &original, questions, "arbitrary");
+}
+
+/// A set or a request with some bytes changed or cut off: refusals 1 to 3 as records.rs, a second reading of document 01, has them.
+fn damaged(report: &mut Report, seed: u64, r: &mut Random, s: &System, which: Input) {
+    let (mut set, mut request) = (s.set.clone(), s.request.clone());
+    let bytes = if which == Input::Set { &mut set } else { &mut request };
+    for _ in 0..r.within(1, 2) {
+        match r.below(8) {
+            0 => bytes.truncate(r.below(bytes.len() + 1)),
+            1 => bytes.extend_from_within(..r.below(bytes.len() + 1)),
+            _ if bytes.is_empty() => {}
+            _ => {
+                let at = r.below(bytes.len());
+                bytes[at] = *r.choose(&[0, 1, 0x20, 0x7F, b'M', b'O', bytes[at].wrapping_add(1), bytes[at].wrapping_sub(1)]);
+            }
+        }
+    }
+    let expected = parse_both(&set, &request).map(|(modules, _)| modules.len()).map_err(|bad| match bad.number {
+        1 => Refusal::Malformed { input: if bad.which == "set" { Input::Set } else { Input::Request }, offset: bad.offset },
+        2 => Refusal::TooLarge { offset: bad.offset },
+        _ => Refusal::Repeated { offset: bad.offset },
+    });
+    report.compare("checks of damaged inputs (by a second reading)", seed, &which, saqhovune::check(&set, &request), expected);
+    if let Err(e) = expected {
+        report.compare("resolutions of damaged inputs", seed, &which, saqhovune::resolve(&set, &request), Err(e));
+        let verdict = saqhovune::check_access(&set, &request, &Configuration::from_words([0; WORDS]), b"a", b"a", b"");
+        report.compare("questions of damaged inputs", seed, &which, verdict, Err(e));
+    }
+}
+
+/// A name for each of the 256 positions, also for those that the set does not have.
+fn names(s: &System) -> Vec<String> {
+    let mut names: Vec<String> = saqhovune::form::module_names(&s.set).map(text).collect();
+    names.extend((names.len()..256).map(|i| format!("(position {i})")));
+    names
+}
+
+fn listing_of(s: &System, c: &Configuration) -> String {
+    let names = names(s);
+    let mut members: Vec<usize> = c.members().collect();
+    members.sort_by_key(|i| &names[*i]);
+    let mut out = format!("resolved {}\n", members.len());
+    for &i in &members {
+        out += &format!("module {}\n", names[i]);
+        let mut reads: BTreeSet<&str> = (0..names.len()).filter(|j| c.reads(i, *j)).map(|j| names[j].as_str()).collect();
+        if c.reads_unnamed(i) {
+            reads.insert("ALL-UNNAMED");
+        }
+        for r in reads {
+            out += &format!("reads {r}\n");
+        }
+    }
+    for p in &s.packages {
+        if let Some(i) = saqhovune::find_module_for_package(&s.set, c, p.as_bytes()).expect("the set is well-formed") {
+            out += &format!("owner {p} {}\n", names[i]);
+        }
+    }
+    out
+}
+
+/// The refusal as the original's, if it is one of a resolution.
+fn told(s: &System, inputs: &Inputs, e: &Refusal) -> Option<ModuleError> {
+    let name = |i: usize| inputs.modules.get(i).map(|m| m.name().to_string());
+    match *e {
+        Refusal::ModuleNotFound { input, start, len } => {
+            let bytes = if input == Input::Set { &s.set } else { &s.request };
+            Some(ModuleError::ModuleNotFound(text(bytes.get(start..start + len)?)))
+        }
+        Refusal::JavaBaseNotFound => Some(ModuleError::ModuleNotFound("java.base".into())),
+        Refusal::SplitPackage { start, len, owner, second } => Some(ModuleError::SplitPackage {
+            package: text(s.set.get(start..start + len)?),
+            module1: name(owner)?,
+            module2: name(second)?,
+        }),
+        _ => None,
+    }
+}
+
+/// Whether the refusal names something that is so, at a place that has it.
+fn cause_is_true(s: &System, inputs: &Inputs, e: &Refusal) -> bool {
+    // Where the first name of a record starts in its input, and its length.
+    let place = |r: &Record, skip: usize| (r.offset + 4 + skip + 1, usize::from(r.body[skip]));
+    let has_place = match *e {
+        Refusal::ModuleNotFound { input: Input::Request, start, len } => {
+            let mut roots = records(&s.request).filter(|r| r.mark == b"RT");
+            // the first root of this name
+            let wanted = s.request.get(start..start + len);
+            roots.find(|r| r.body.get(1..) == wanted).is_some_and(|r| place(&r, 0) == (start, len))
+        }
+        Refusal::ModuleNotFound { start, len, .. } => {
+            let mut required = records(&s.set).filter(|r| r.mark == b"RQ" && r.body[1] & 0x40 == 0);
+            required.any(|r| place(&r, 2) == (start, len))
+        }
+        Refusal::SplitPackage { start, len, second, .. } => {
+            let module = records(&s.set).skip_while({
+                let mut seen = 0;
+                move |r| {
+                    seen += usize::from(r.mark == b"MO");
+                    seen <= second
+                }
+            });
+            let mut packages = module.skip(1).take_while(|r| r.mark != b"MO").filter(|r| r.mark == b"PK");
+            // the first record of the package
+            let wanted = s.set.get(start..start + len);
+            packages.find(|r| r.body.get(1..) == wanted).is_some_and(|r| place(&r, 0) == (start, len))
+        }
+        _ => true,
+    };
+    has_place && told(s, inputs, e).is_some_and(|cause| inputs.is_true(&cause))
+}
+
+fn row_names(s: &System, row: &Row) -> BTreeSet<String> {
+    let names = names(s);
+    let mut all: BTreeSet<String> = row.positions().map(|i| names[i].clone()).collect();
+    if row.contains_unnamed() {
+        all.insert("ALL-UNNAMED".into());
+    }
+    all
+}
+
+#[allow(clippy::too_many_arguments)]
+fn ask(
+    report: &mut Report,
+    seed: u64,
+    r: &mut Random,
+    s: &System,
+    c: &Configuration,
+    original: &ResolvedConfiguration,
+    questions: usize,
+    which: &str,
+) {
+    let resolved = which == "resolved";
+    let kind = |a: &'static str, b: &'static str| if resolved { a } else { b };
+    let access = AccessCheck::new(original);
+    let graph = ModuleGraph::from_configuration(original);
+    for _ in 0..questions {
+        let q = generate::question(r, s);
+        let [a, t, p] = q.each_ref().map(|b| text(b));
+        let of = (which, &a, &t, &p);
+        let verdict = saqhovune::check_access(&s.set, &s.request, c, &q[0], &q[1], &q[2]);
+        let verdict = format!("{:?}", verdict.expect("the inputs are well-formed"));
+        let expected = format!("{:?}", access.check_access(&a, &t, &p));
+        report.count(match expected.as_str() {
+            "Allowed" => "verdicts Allowed",
+            "NotReadable" => "verdicts NotReadable",
+            _ => "verdicts NotExported",
+        });
+        report.compare(kind("verdicts, resolved", "verdicts, arbitrary"), seed, &of, verdict, expected);
+        let verdict = saqhovune::check_reflection_access(&s.set, &s.request, c, &q[0], &q[1], &q[2]);
+        let verdict = format!("{:?}", verdict.expect("the inputs are well-formed"));
+        let expected = format!("{:?}", access.check_reflection_access(&a, &t, &p));
+        report.compare(kind("reflection verdicts, resolved", "reflection verdicts, arbitrary"), seed, &of, verdict, expected);
+        let reads = saqhovune::can_read(&s.set, c, &q[0], &q[1]);
+        report.compare(kind("can_read, resolved", "can_read, arbitrary"), seed, &of, reads, Ok(access.can_read(&a, &t)));
+        owner(report, seed, s, c, original, &q[2], kind("owners, resolved", "owners, arbitrary"));
+    }
+    for _ in 0..questions.div_ceil(4) {
+        let name = generate::asked_name(r, s);
+        let n = text(&name);
+        let row = saqhovune::readers_of(&s.set, c, &name).expect("the set is well-formed");
+        let expected = graph.readers_of(&n).cloned().unwrap_or_default();
+        report.compare(kind("readers_of, resolved", "readers_of, arbitrary"), seed, &n, row_names(s, &row), expected);
+        let row = saqhovune::transitive_reads(&s.set, c, &name).expect("the set is well-formed");
+        let expected = graph.transitive_reads(&n);
+        report.compare(kind("transitive_reads, resolved", "transitive_reads, arbitrary"), seed, &n, row_names(s, &row), expected);
+    }
+}
+
+/// Where two members of an arbitrary configuration have the package, the original has no answer.
+fn owner(
+    report: &mut Report,
+    seed: u64,
+    s: &System,
+    c: &Configuration,
+    original: &ResolvedConfiguration,
+    package: &[u8],
+    kind: &'static str,
+) {
+    let p = text(package);
+    if original.modules().filter(|m| m.descriptor().packages.contains(&p)).count() > 1 {
+        report.count("skipped: package of several members");
+        return;
+    }
+    let names = names(s);
+    let found = saqhovune::find_module_for_package(&s.set, c, package).expect("the set is well-formed");
+    let found = found.map(|i| names[i].clone());
+    report.compare(kind, seed, &p, found, original.find_module_for_package(&p).map(String::from));
+}
