@@ -1,0 +1,465 @@
+//! The slowest inputs known, near 65,535 bytes: what each loop of the library meets most often.
+use crate::inputs::LIMIT;
+use crate::slow_class;
+use crate::time::{self, times};
+use saqhovune::form::*;
+use saqhovune::{Configuration, Refusal, Row, Verdict, WORDS};
+use std::hint::black_box;
+
+/// No input should take longer (in nanoseconds).
+const GOAL: f64 = 50e6;
+
+/// A name of `len` printable bytes that tells `i`; smaller numbers come first in byte order.
+pub fn name(len: usize, i: usize) -> String {
+    let mut digits = vec![b'!'; len];
+    let mut rest = i;
+    for d in digits.iter_mut().rev() {
+        *d = b'!' + (rest % 94) as u8;
+        rest /= 94;
+    }
+    assert_eq!(rest, 0, "{i} has no name of {len} bytes");
+    String::from_utf8(digits).unwrap()
+}
+
+/// Appends what `make` gives for 0, 1, ... while the whole is no longer than `limit`.
+pub fn fill(mut front: Vec<u8>, limit: usize, mut make: impl FnMut(usize) -> Vec<u8>) -> Vec<u8> {
+    for i in 0.. {
+        let next = make(i);
+        if front.len() + next.len() > limit {
+            break;
+        }
+        front.extend(next);
+    }
+    front
+}
+
+/// LM of one name, so often that the request is full.
+fn limits(front: Vec<u8>, of: &str, limit: usize) -> Vec<u8> {
+    let count = (limit - front.len() - 6) / (of.len() + 1);
+    [front, saqhovune::form::limit(&vec![of; count])].concat()
+}
+
+/// java.base and modules of these names.
+fn modules(names: impl Iterator<Item = String>) -> Vec<u8> {
+    names.fold(module("java.base"), |set, n| [set, module(&n)].concat())
+}
+
+/// The hash of resolution/src/filter.rt; its multipliers are 17,117 and 40,503.
+fn hash(n: &str, m: u64) -> u64 {
+    n.bytes().fold(0, |h, b| (h * m + u64::from(b)) % 65_521)
+}
+
+/// A name that sets the bits of "~" in the filter, which are one, so that "~" passes it in vain.
+fn marker() -> String {
+    let collides = |n: &String| [17_117, 40_503].iter().any(|m| hash(n, *m) == hash("~", *m));
+    (0..94 * 94 * 94).map(|i| name(3, i)).find(collides).expect("a name of three bytes collides")
+}
+
+/// A name of 255 bytes whose first bit in the filter is that of `other`, and whose second is not.
+fn half_marked(other: &str) -> String {
+    let names = (0..94 * 94 * 94).map(|i| "n".repeat(252) + &name(3, i));
+    let mut halves = names.filter(|n| hash(n, 17_117) == hash(other, 17_117) && hash(n, 40_503) != hash(other, 40_503));
+    halves.next().expect("a name of 255 bytes collides")
+}
+
+struct Table {
+    seconds: f64,
+    over: usize,
+}
+
+impl Table {
+    /// `told` says what the call answers: members, a verdict, bytes written or a refusal.
+    fn row<R>(&mut self, function: &str, input: &str, bytes: usize, told: impl Fn(R) -> String, mut call: impl FnMut() -> R) {
+        let mut answer = None;
+        let t = times(self.seconds, &mut [&mut || answer = Some(black_box(call()))])[0];
+        let answer = told(answer.expect("the call was made"));
+        let over = if t.best > GOAL { "over 50 ms" } else { "" };
+        self.over += usize::from(t.best > GOAL);
+        println!("| {function} | {input} | {bytes} | {answer} | {} | {} | {over} |", time::text(t.best), time::text(t.median));
+    }
+
+    fn resolve(&mut self, input: &str, set: Vec<u8>, request: Vec<u8>) {
+        let mut words = vec![0; WORDS];
+        self.row("resolve", input, size(&set, &request), number("start"), || {
+            saqhovune::resolve_into(black_box(&set), black_box(&request), &mut words)
+        });
+    }
+
+    fn check(&mut self, input: &str, set: Vec<u8>, request: Vec<u8>) {
+        self.row("check", input, size(&set, &request), number("modules"), || {
+            saqhovune::check(black_box(&set), black_box(&request))
+        });
+    }
+
+    fn access(&mut self, input: &str, set: Vec<u8>, request: Vec<u8>, [a, t, p]: [&str; 3]) {
+        let c = everything();
+        let bytes = size(&set, &request);
+        let [a, t, p] = [a, t, p].map(str::as_bytes);
+        let verdict = |v: Result<Verdict, Refusal>| format!("{:?}", v.expect("it is well-formed"));
+        self.row("access", input, bytes, verdict, || saqhovune::check_access(black_box(&set), black_box(&request), &c, a, t, p));
+        self.row("reflection", input, bytes, verdict, || {
+            saqhovune::check_reflection_access(black_box(&set), black_box(&request), &c, a, t, p)
+        });
+    }
+
+    fn graph(&mut self, input: &str, set: &[u8], c: &Configuration, [from, to]: [&str; 2]) {
+        let [from, to] = [from, to].map(str::as_bytes);
+        let members = |row: Result<Row, Refusal>| format!("{} modules", row.expect("it is well-formed").len());
+        self.row(
+            "can_read",
+            input,
+            set.len(),
+            |r| if r == Ok(true) { "yes".into() } else { "no".into() },
+            || saqhovune::can_read(black_box(set), c, from, to),
+        );
+        self.row("readers_of", input, set.len(), members, || saqhovune::readers_of(black_box(set), c, to));
+        self.row("transitive_reads", input, set.len(), members, || saqhovune::transitive_reads(black_box(set), c, from));
+    }
+
+    fn class(&mut self, input: &str, file: Vec<u8>, out: &mut [u8]) {
+        self.row("class", input, size(&file, &[]), number("bytes"), || saqhovune::from_class_file(black_box(&file), out));
+    }
+
+    fn jar(&mut self, input: &str, packages: Vec<u8>, out: &mut [u8]) {
+        self.row("jar", input, size(&packages, &[]), number("bytes"), || {
+            saqhovune::automatic_from_jar_name(b"a.jar", None, black_box(&packages), out)
+        });
+    }
+}
+
+/// The length of both, each of which may be that long.
+fn size(set: &[u8], request: &[u8]) -> usize {
+    assert!(set.len() <= LIMIT && request.len() <= LIMIT, "{} and {} bytes", set.len(), request.len());
+    set.len() + request.len()
+}
+
+/// An answer that is a number of this unit, or a refusal.
+fn number(unit: &str) -> impl Fn(Result<usize, Refusal>) -> String + '_ {
+    move |answer| match answer {
+        Ok(n) => format!("{n} {unit}"),
+        Err(e) => format!("refused {}", e.number()),
+    }
+}
+
+/// All are members and read all.
+fn everything() -> Configuration {
+    Configuration::from_words([u64::MAX; WORDS])
+}
+
+/// Position i reads i - 1 alone: sweeps from the front add one each.
+fn chain() -> Configuration {
+    let mut words = [0; WORDS];
+    words[..4].fill(u64::MAX);
+    (1..256).for_each(|i| words[4 + 4 * i + (i - 1) / 64] |= 1 << ((i - 1) % 64));
+    Configuration::from_words(words)
+}
+
+fn resolutions(t: &mut Table) {
+    let base = || module("java.base");
+    let long = |i: usize| "n".repeat(238) + &name(2, i);
+
+    t.resolve(
+        "7,000 RQ of one absent name, LM of 32,000 other names",
+        fill(base(), LIMIT, |_| requires("~", 0)),
+        limits(Vec::new(), "!", LIMIT),
+    );
+    t.resolve(
+        "7,000 RQ of one absent name, LM behind 10,900 RT",
+        [fill(base(), LIMIT - 10, |_| requires("~", 0)), module("b")].concat(),
+        [fill(Vec::new(), LIMIT - 6, |_| root("b")), limit(&[])].concat(),
+    );
+    t.resolve(
+        "5,400 absent RT, LM of 16,000 other names",
+        base(),
+        limits(fill(Vec::new(), LIMIT / 2, |_| root("~")), "!", LIMIT),
+    );
+    t.resolve("10,900 absent RT, LM behind them", base(), [fill(Vec::new(), LIMIT - 6, |_| root("~")), limit(&[])].concat());
+    t.resolve(
+        "256 modules, LM of 21,000 other names as long",
+        modules((1..256).map(|i| name(2, i))),
+        limits(Vec::new(), "~~", LIMIT),
+    );
+    t.resolve(
+        "256 modules of 240 bytes with a common prefix, LM of 270 such",
+        modules((1..256).map(long)),
+        limit(&(0..270).map(|i| long(i + 300)).collect::<Vec<_>>().iter().map(String::as_str).collect::<Vec<_>>()),
+    );
+
+    t.resolve(
+        "256 modules, 6,000 RQ of the last",
+        {
+            let set = modules((1..254).map(|i| name(2, i)));
+            [fill([set, module("a")].concat(), LIMIT - 20, |_| requires("zz", TRANSITIVE)), module("zz")].concat()
+        },
+        root("a"),
+    );
+    t.resolve(
+        "256 modules, 6,000 static RQ of an absent name",
+        {
+            let set = modules((1..255).map(|i| name(2, i)));
+            fill([set, module("a")].concat(), LIMIT, |_| requires("~~", STATIC | TRANSITIVE))
+        },
+        root("a"),
+    );
+    t.resolve(
+        "128 modules of 240 bytes with a common prefix, 125 RQ of the last",
+        {
+            let set = modules((1..128).map(long));
+            fill([set, module("a")].concat(), LIMIT, |_| requires(&long(127), TRANSITIVE))
+        },
+        root("a"),
+    );
+    t.resolve(
+        "256 modules, 6,500 AR between the last two",
+        modules((1..256).map(|i| name(2, i))),
+        fill((1..256).flat_map(|i| root(&name(2, i))).collect(), LIMIT, |_| add_read(&name(2, 254), &name(2, 255))),
+    );
+    t.resolve(
+        "256 modules of 240 bytes with a common prefix, 130 AR between the last two",
+        modules((1..256).map(long)),
+        fill(root(&long(255)), LIMIT, |_| add_read(&long(254), &long(255))),
+    );
+
+    let ring = |step: usize| {
+        (1..256).fold(base(), |set, i| {
+            let set = [set, module(&name(2, i))].concat();
+            let mut next = 0;
+            fill(set, base().len() + i * (LIMIT - base().len()) / 255, |_| {
+                next += step;
+                requires(&name(2, (i + next) % 255 + 1), TRANSITIVE)
+            })
+        })
+    };
+    t.resolve(
+        "256 modules in a ring of transitive RQ",
+        (1..256).fold(base(), |set, i| [set, module(&name(2, i)), requires(&name(2, i % 255 + 1), TRANSITIVE)].concat()),
+        root(&name(2, 1)),
+    );
+    t.resolve(
+        "the same against the order of the set",
+        {
+            (1..256)
+                .fold(base(), |set, i| [set, module(&name(2, i)), requires(&name(2, (i + 253) % 255 + 1), TRANSITIVE)].concat())
+        },
+        root(&name(2, 1)),
+    );
+    t.resolve("256 modules with 24 transitive RQ each", ring(11), root(&name(2, 1)));
+    t.resolve(
+        "the same with 6,500 AR between the last two",
+        ring(11),
+        fill(root(&name(2, 1)), LIMIT, |_| add_read(&name(2, 254), &name(2, 255))),
+    );
+
+    t.resolve(
+        "8,000 PK in two modules, all different",
+        {
+            let set = fill([base(), module("a")].concat(), LIMIT / 2, |i| package(&name(3, i)));
+            fill([set, module("b")].concat(), LIMIT, |i| package(&name(3, i + 100_000)))
+        },
+        [root("a"), root("b")].concat(),
+    );
+    t.resolve(
+        "8,000 PK in 250 modules, all different",
+        {
+            (0..250).fold(base(), |set, i| {
+                let set = [set, module(&name(2, i))].concat();
+                fill(set, (i + 1) * LIMIT / 250, |j| package(&name(3, i * 100 + j)))
+            })
+        },
+        (0..250).flat_map(|i| root(&name(2, i))).collect(),
+    );
+    t.resolve(
+        "5,400 PK of a package that another module has behind 5,400 PK",
+        {
+            let set = fill([base(), module("a")].concat(), LIMIT / 2, |_| package("!"));
+            fill([set, package("~"), module("b")].concat(), LIMIT, |_| package("~"))
+        },
+        [root("a"), root("b")].concat(),
+    );
+    t.resolve(
+        "5,400 PK that pass the filter in vain, another module with 5,400 PK",
+        {
+            let set = fill([base(), module("a"), package(&marker())].concat(), LIMIT / 2, |_| package("!"));
+            fill([set, module("b")].concat(), LIMIT, |_| package("~"))
+        },
+        [root("a"), root("b")].concat(),
+    );
+
+    t.resolve(
+        "4,000 US of one module, 3,200 PV of 250, all different",
+        {
+            let set = fill(base(), LIMIT / 2, |i| uses(&name(3, i)));
+            (0..250).fold(set.clone(), |all, i| {
+                let all = [all, module(&name(2, i))].concat();
+                fill(all, set.len() + (i + 1) * (LIMIT - set.len()) / 250, |j| provides(&name(3, 100_000 + i * 100 + j), &[]))
+            })
+        },
+        Vec::new(),
+    );
+    t.resolve(
+        "5,400 US of one module, 4,000 PV that pass the filter in vain",
+        {
+            let set = fill([base(), uses(&marker())].concat(), LIMIT / 2, |_| uses("!"));
+            fill([set, module("a")].concat(), LIMIT, |_| provides("~", &[]))
+        },
+        Vec::new(),
+    );
+    let rounds = |front: Vec<u8>, count: usize| {
+        (0..count).fold([front, uses("s!!")].concat(), |set, i| {
+            let own = [
+                module(&name(3, 500_000 + i)),
+                provides(&format!("s{}", name(2, i)), &[]),
+                uses(&format!("s{}", name(2, i + 1))),
+            ];
+            [set, own.concat()].concat()
+        })
+    };
+    t.resolve("255 rounds", rounds(base(), 255), Vec::new());
+    t.resolve(
+        "254 rounds, a module with 7,200 PV of services that nobody uses",
+        fill([rounds(base(), 254), module("a")].concat(), LIMIT, |_| provides("~", &[])),
+        Vec::new(),
+    );
+    t.resolve(
+        "254 rounds, a module with 210 PV of a service of 255 bytes with one bit in the filter",
+        {
+            let long = half_marked("A");
+            fill([rounds([base(), uses("A")].concat(), 254), module("a")].concat(), LIMIT, |_| provides(&long, &[]))
+        },
+        Vec::new(),
+    );
+    t.resolve(
+        "254 rounds, 4,800 US, 3,600 PV that pass the filter in vain",
+        {
+            let set = rounds(fill([base(), uses(&marker())].concat(), (LIMIT - 254 * 30) / 2, |_| uses("!")), 254);
+            fill([set, module("a")].concat(), LIMIT, |_| provides("~", &[]))
+        },
+        Vec::new(),
+    );
+    t.resolve(
+        "a round with 7,000 RQ of an absent name that is the last of 10,900 RT",
+        {
+            let set = [base(), uses("s"), module("a"), provides("s", &[])].concat();
+            fill(set, LIMIT, |_| requires("~", 0))
+        },
+        {
+            let front = limit(&["a"]);
+            [fill(front, LIMIT - 6, |_| root("!")), root("~")].concat()
+        },
+    );
+    t.resolve(
+        "a round with 3,600 RQ of an absent name that another module requires behind 3,600 RQ, 10,900 RT",
+        {
+            let set = fill([base(), uses("s")].concat(), LIMIT / 2, |_| requires("!", 0));
+            fill([set, requires("~", 0), module("a"), provides("s", &[])].concat(), LIMIT, |_| requires("~", 0))
+        },
+        fill(limit(&["a"]), LIMIT, |_| root("!")),
+    );
+}
+
+fn questions(t: &mut Table) {
+    let base = || module("java.base");
+    let long = |i: usize| "n".repeat(238) + &name(2, i);
+    let two = || [base(), module("a"), module("t")].concat();
+    let ask = ["a", "t", "~"];
+
+    t.check("256 modules of 240 bytes with a common prefix", modules((1..256).map(long)), Vec::new());
+    t.check("10,900 PK, 10,900 RT", fill(base(), LIMIT, |_| package("!")), fill(Vec::new(), LIMIT, |_| root("!")));
+    t.check(
+        "EX of 32,000 targets, LM of 32,000 names",
+        [base(), exports("p", &vec!["!"; (LIMIT - base().len() - 8) / 2])].concat(),
+        limits(Vec::new(), "!", LIMIT),
+    );
+
+    t.access("8,000 EX of other packages", fill(two(), LIMIT, |_| exports("!", &[])), Vec::new(), ask);
+    t.access("8,000 OP of other packages", fill(two(), LIMIT, |_| opens("!", &[])), Vec::new(), ask);
+    t.access(
+        "EX of 32,000 other targets",
+        [two(), exports("~", &vec!["!"; (LIMIT - two().len() - 8) / 2])].concat(),
+        Vec::new(),
+        ask,
+    );
+    t.access(
+        "EX of 250 other targets of 240 bytes, 130 AE of such",
+        {
+            let names: Vec<String> = (0..250).map(long).collect();
+            let set = [base(), module(&long(300)), module("t")].concat();
+            [set, exports("~", &names.iter().map(String::as_str).collect::<Vec<_>>())].concat()
+        },
+        fill(Vec::new(), LIMIT, |_| add_export("t", "~", &long(301))),
+        [&long(300), "t", "~"],
+    );
+    t.access("6,500 AE of another target", two(), fill(Vec::new(), LIMIT, |_| add_export("t", "~", "!")), ask);
+    t.access("6,500 AO of another target", two(), fill(Vec::new(), LIMIT, |_| add_open("t", "~", "!")), ask);
+    t.access(
+        "an automatic target with 10,900 other PK",
+        fill([base(), module("a"), module_with("t", 0, true, "")].concat(), LIMIT, |_| package("!")),
+        Vec::new(),
+        ask,
+    );
+    t.access(
+        "8,000 EX of other packages, 6,500 AE of another target",
+        fill(two(), LIMIT, |_| exports("!", &[])),
+        fill(Vec::new(), LIMIT, |_| add_export("t", "~", "!")),
+        ask,
+    );
+
+    let set = fill(base(), LIMIT, |_| package("!"));
+    let c = everything();
+    t.row(
+        "owner",
+        "10,900 other PK",
+        set.len(),
+        |o| if o == Ok(None) { "none".into() } else { "found".into() },
+        || saqhovune::find_module_for_package(black_box(&set), &c, b"~"),
+    );
+    let set = modules((1..256).map(long));
+    let names = [long(255), long(254)];
+    let names = names.each_ref().map(String::as_str);
+    t.graph("256 modules of 240 bytes, all edges", &set, &everything(), names);
+    t.graph("256 modules of 240 bytes, a chain of reads", &set, &chain(), names);
+}
+
+fn readers(t: &mut Table) {
+    let mut out = vec![0; 1 << 25];
+    let out = out.as_mut_slice();
+    t.jar(
+        "8,800 packages in reverse order",
+        fill(Vec::new(), LIMIT, |i| package(&if i < 8836 { name(2, 8835 - i) } else { "!".into() })),
+        out,
+    );
+    t.jar("8,800 packages in order", fill(Vec::new(), LIMIT, |i| package(&name(2, i.min(8835)))), out);
+    t.jar(
+        "4,400 packages in reverse order, each twice",
+        fill(Vec::new(), LIMIT, |i| package(&name(2, 8835 - i.min(9361) / 2))),
+        out,
+    );
+    t.jar("10,900 times one package", fill(Vec::new(), LIMIT, |_| package("!")), out);
+    t.jar(
+        "270 packages of 238 bytes with a common prefix, in reverse order",
+        fill(Vec::new(), LIMIT, |i| package(&("n".repeat(236) + &name(2, 500 - i)))),
+        out,
+    );
+    t.jar(
+        "130 packages of 238 bytes, each twice, and 4,600 of 2 bytes",
+        {
+            let front = (0..260).flat_map(|i| package(&("n".repeat(236) + &name(2, 500 - i / 2))));
+            fill(front.collect(), LIMIT, |i| package(&name(2, 8835 - i)))
+        },
+        out,
+    );
+    for (input, file) in slow_class::files() {
+        t.class(input, file, out);
+    }
+}
+
+pub fn print(seconds: f64) {
+    println!("Best of many runs and median; a call over 5 s is made once. One thread, buffers warm and reused.\n");
+    println!("| function | input | bytes | answer | time | (median) | |");
+    println!("|---|---|---:|---|---:|---:|---|");
+    let mut table = Table { seconds, over: 0 };
+    resolutions(&mut table);
+    questions(&mut table);
+    readers(&mut table);
+    println!("\n{} over 50 ms", table.over);
+}
