@@ -286,6 +286,10 @@ cases = [
     ("pool-count-1", usual(count=1), 10),
     ("pool-count-short", usual(count=16), 124),
     ("pool-count-long", usual(count=19), 133),
+    ("pool-count-65535", usual(count=65535), 133),
+    ("pool-of-2047-constants", usual(own=b"\3abcd" * 2030, count=2048), WRITTEN),
+    ("pool-of-2048-constants", usual(own=b"\3abcd" * 2031, count=2049), WRITTEN),
+    ("bad-tag-behind-2048-constants", usual(own=b"\3abcd" * 2031 + b"\2", count=2050), 133 + 5 * 2031),
     ("pool-due", WHOLE[:10], 10),
     ("utf8-tag-alone", WHOLE[:11], 10),
     ("utf8-length-cut", WHOLE[:12], 10),
@@ -465,6 +469,13 @@ cases = [
     ("packages-300-backwards", whole(
         b"".join(utf8(b"p%03d" % (299 - i)) + named(PACKAGE, 18 + 2 * i) for i in range(300)), 618, packs=range(19, 618, 2)),
      MO + TABLES + b"".join(b"PK\0\5\4p%03d" % i for i in range(300)) + MC),
+    ("packages-1024-backwards", whole(
+        b"".join(utf8(b"p%04d" % (1023 - i)) + named(PACKAGE, 18 + 2 * i) for i in range(1024)), 2066, packs=range(19, 2066, 2)),
+     MO + TABLES + b"".join(b"PK\0\6\5p%04d" % i for i in range(1024)) + MC),
+    ("packages-1025-and-repeats", whole(packs=[12] * 1025), WRITTEN),
+    ("packages-1025-backwards", whole(
+        b"".join(utf8(b"p%04d" % (1024 - i)) + named(PACKAGE, 18 + 2 * i) for i in range(1025)), 2068, packs=range(19, 2068, 2)),
+     MO + TABLES + b"".join(b"PK\0\6\5p%04d" % i for i in range(1025)) + MC),
     ("targets-300", whole(exports=[(12, 0, [10] * 300)]),
      MO + TABLES[:12] + b"EX\2\x5e\3p/q\1\x2c" + b"\1b" * 300 + TABLES[24:] + PK + MC),
 ]

@@ -85,7 +85,7 @@ fn check_short(class: &[u8], n: usize) {
 
 // The answer for the class file, and what differs from what is stored.
 fn check(class: &[u8], wanted: Answer, records: &[u8], before: &[u8]) {
-    let mut out = [0u8; 131072];
+    let mut out = [7u8; 131072];
     let a = answer_of(from_class_file(class, &mut out));
     print(a);
     expect(a.number == wanted.number, b"number");
@@ -142,6 +142,6 @@ fn main() {
     let mut buffer = [0u8; 524288];
     let n = io::read_full(fd, &mut buffer);
     libc::close(fd);
-    let before = [0u8; 131072];
+    let before = [7u8; 131072];
     run(head(&buffer, n), &before);
 }
