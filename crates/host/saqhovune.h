@@ -1,7 +1,10 @@
 /* The C functions of the crate host: `rt staticlib host` writes target/staticlib/libhost.a with them.
  *
- * A slice is a pointer and a length; a slice of length 0 may have any pointer that is not null and is aligned. No two slices of
- * one call may overlap where one of them is written.
+ * A slice is a pointer and a length. Every pointer is not null and is aligned, also that of a slice of length 0. What is written,
+ * row and particulars included, overlaps no other argument.
+ *
+ * Stack, as measured on x86-64: 310 KiB for saqhovune_from_class_file, 140 KiB for saqhovune_automatic_from_jar_name, 90 KiB for
+ * saqhovune_resolve, 40 KiB for every other function.
  *
  * Each function returns 0 for an answer, else the number of a refusal (document 01), and always writes all four words of
  * particulars, unused ones as 0:
@@ -30,11 +33,15 @@
 
 #define SAQHOVUNE_WORDS 1032
 
+#ifdef __cplusplus
+extern "C" {
+#endif
+
 /* Checks a set and a request (1 to 3). Answers the number of modules. */
 uint64_t saqhovune_check(const uint8_t *set, size_t set_len, const uint8_t *request, size_t request_len,
                          uint64_t particulars[4]);
 
-/* Resolves a set and a request (1 to 7, then 4) into the first 1,032 words. Answers the number of resolved modules. */
+/* Resolves a set and a request (1 to 3, 5 to 7, then 4) into the first 1,032 words. Answers the number of resolved modules. */
 uint64_t saqhovune_resolve(const uint8_t *set, size_t set_len, const uint8_t *request, size_t request_len, uint64_t *words,
                            size_t words_len, uint64_t particulars[4]);
 
@@ -50,7 +57,8 @@ uint64_t saqhovune_check_reflection_access(const uint8_t *set, size_t set_len, c
                                            const uint8_t *target, size_t target_len, const uint8_t *package,
                                            size_t package_len, uint64_t particulars[4]);
 
-/* Whether a module can read another (4, 1 to 3 of the set). Answers 1 or 0. */
+/* Whether a module can read another (4, 1 to 3 of the set). Answers 1 where the names are equal, known or not, where `to` is
+ * java.base, or where a member has a read edge to the other; else 0. */
 uint64_t saqhovune_can_read(const uint8_t *set, size_t set_len, const uint64_t *words, size_t words_len, const uint8_t *from,
                             size_t from_len, const uint8_t *to, size_t to_len, uint64_t particulars[4]);
 
@@ -58,12 +66,13 @@ uint64_t saqhovune_can_read(const uint8_t *set, size_t set_len, const uint64_t *
 uint64_t saqhovune_find_module_for_package(const uint8_t *set, size_t set_len, const uint64_t *words, size_t words_len,
                                            const uint8_t *package, size_t package_len, uint64_t particulars[4]);
 
-/* The members that read the module of this name (4, 1 to 3 of the set), as a row of positions. Answers 0. */
+/* The members that read the module of this name, or ALL-UNNAMED (4, 1 to 3 of the set), as a row of positions; none where the
+ * name is not known. Answers 0. */
 uint64_t saqhovune_readers_of(const uint8_t *set, size_t set_len, const uint64_t *words, size_t words_len, const uint8_t *name,
                               size_t name_len, uint64_t row[4], uint64_t particulars[4]);
 
-/* What one read edge or more lead to from the module of this name (4, 1 to 3 of the set), as a row of positions. Answers 1 where
- * ALL-UNNAMED is among them, else 0. */
+/* What one read edge or more lead to from the module of this name (4, 1 to 3 of the set), as a row of positions; none where the
+ * name is not that of a member. Answers 1 where ALL-UNNAMED is among them, else 0. */
 uint64_t saqhovune_transitive_reads(const uint8_t *set, size_t set_len, const uint64_t *words, size_t words_len,
                                     const uint8_t *name, size_t name_len, uint64_t row[4], uint64_t particulars[4]);
 
@@ -75,5 +84,9 @@ uint64_t saqhovune_from_class_file(const uint8_t *file, size_t file_len, uint8_t
 uint64_t saqhovune_automatic_from_jar_name(const uint8_t *jar, size_t jar_len, bool given, const uint8_t *manifest,
                                            size_t manifest_len, const uint8_t *packages, size_t packages_len, uint8_t *out,
                                            size_t out_len, uint64_t particulars[4]);
+
+#ifdef __cplusplus
+}
+#endif
 
 #endif

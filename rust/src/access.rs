@@ -81,7 +81,8 @@ fn ask(
     Ok(Verdict::of(answer[0]))
 }
 
-/// Whether a module can read another (1 to 3 of the set).
+/// Whether a module can read another (1 to 3 of the set): the names are equal, known or not, the other is java.base, or a member
+/// has a read edge to it.
 pub fn can_read(set: &[u8], configuration: &Configuration, from: &[u8], to: &[u8]) -> Result<bool, Refusal> {
     let words = configuration.words();
     // SAFETY: as above.

@@ -1,7 +1,8 @@
 //! The byte form of sets and requests: records to write, and a walk over those of an input.
 //!
 //! A set is the concatenation of [`module`] records, each with the records that belong to it; a request is that of its
-//! records. Nothing is checked here but lengths; [`crate::check`] does that.
+//! records. Nothing is checked here but lengths; [`crate::check`] does that. A name over 255 bytes, a list of over 65,535 names or
+//! a body of over 65,535 bytes panics.
 
 /// A requirement that is read by whoever reads its module.
 pub const TRANSITIVE: u16 = 0x0020;
@@ -22,7 +23,11 @@ pub fn name(text: &str) -> Vec<u8> {
 /// A list of names behind their count.
 fn list(names: &[&str]) -> Vec<u8> {
     let count = u16::try_from(names.len()).expect("a list has at most 65,535 names");
-    names.iter().fold(count.to_be_bytes().to_vec(), |out, n| [out, name(n)].concat())
+    let mut out = count.to_be_bytes().to_vec();
+    for n in names {
+        out.extend(name(n));
+    }
+    out
 }
 
 /// A record.

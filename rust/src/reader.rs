@@ -1,4 +1,5 @@
-//! The class reader and the jar reader. What they write are the records of one module, ready to be a part of a set.
+//! The class reader and the jar reader. What they write are the records of one module, ready to be a part of a set that has room
+//! for them (a class file may name its module ALL-UNNAMED, which no set takes).
 use crate::raw;
 use crate::refusal::{told, Refusal};
 
@@ -42,7 +43,8 @@ pub fn automatic_from_jar_name(jar: &[u8], manifest: Option<&[u8]>, packages: &[
 
 /// The same into a new vector, of the length needed.
 pub fn automatic_from_jar_name_vec(jar: &[u8], manifest: Option<&[u8]>, packages: &[u8]) -> Result<Vec<u8>, Refusal> {
-    grown(0, |out| automatic_from_jar_name(jar, manifest, packages, out))
+    // MO and RQ take at most 281 bytes, and the three records of a package less than four times its own.
+    grown(281 + 4 * packages.len(), |out| automatic_from_jar_name(jar, manifest, packages, out))
 }
 
 /// Writes into a vector of the length guessed or, where that is too short, of the length needed.
