@@ -55,7 +55,7 @@ contentsGood ModulePackages f t p end = tableGood Entry.Package f t p && eqb (ta
 contentsGood ModuleMainClass f t p end = isEntry Entry.MainClass f t p && eqb (p + 2) end
 contentsGood Other f t p end = true
 
--- ---- the ones met: where the first of each of the three stands, 0 where none was met
+-- ---- the ones met: where each of the three stands, 0 where it was not met. A second one is a fault
 
 abbrev pub nothingSeen : Seen
 nothingSeen = record { descriptor = 0; packages = 0; main = 0 }
