@@ -44,7 +44,7 @@ fieldsGood f t at =
 
 -- ---- the faults
 
--- those behind a pool that ends at `at`: at the pool's end, and in the attributes
+-- those behind a pool that ends at `at`: at the pool's end, or in the attributes, which stand behind it
 unfoldable pub faultsBehind : List ℕ → List ℕ → ℕ → List ℕ
 faultsBehind f t at = cond (fieldsGood f t at) (attributeFaults f t (u16At f (at + 12)) nothingSeen (at + 14)) (at ∷ [])
 
@@ -53,7 +53,8 @@ unfoldable pub faultsFrom : List ℕ → List ℕ → Pool → List ℕ
 faultsFrom f t (Fault at) = at ∷ []
 faultsFrom f t (End at) = faultsBehind f t at
 
--- the offset of each fault of the file: 0 before the pool
+-- the offset of each fault of the file: 0 before the pool. What is not looked at, for want of a place, stands behind a fault that is
+-- listed, so none of it could be lower
 unfoldable pub faults : List ℕ → List ℕ
 faults f = faultUnless (headGood f) 0 ++ faultsFrom f (poolOf f) (poolEnd f)
 

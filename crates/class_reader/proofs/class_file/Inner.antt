@@ -2,8 +2,7 @@
 use Prim.Native.Nat.{ℕ, zero, suc, _+_, _<_}
 use mathlib.Core.Path.{_≡_, refl}
 use mathlib.Core.List.{List, [], _∷_, map, append-nil}
-use mathlib.Core.Bool.{Bool, true, false, cond, _&&_}
-use native.Mathlib.Omega.{arith}
+use mathlib.Core.Bool.{Bool, true, false, _&&_}
 use lib.ListN.{length, getD}
 use lib.Dec.{leb, eqb}
 use Rattle.records.specs.Bytes.{u16At}
@@ -14,12 +13,13 @@ use Rattle.records.specs.declared.record.Kind.the-variants as Kind
 use Rattle.records.proofs.Logic.{and-left, and-right}
 use Rattle.records.proofs.order.Ordered.{ordered-all}
 use Rattle.class_reader.specs.Pool.{isNameText}
-use Rattle.class_reader.specs.Entry.{namesAt, entryEnd, isEntry, kindOf, entryItem, entriesGood, entriesItems, tableGood, tableEnd, tableItems, tablesGood, tablesItems, moduleTables}
+use Rattle.class_reader.specs.Entry.{entryEnd, isEntry, kindOf, entryItem, entriesGood, entriesItems, tableGood, tableEnd, tableItems, tablesGood, tablesItems, moduleTables}
 use Rattle.class_reader.specs.Attribute.{packageNames, packageItem, packageItems}
 use Rattle.class_reader.specs.declared.entry.Entry.{Entry}
 use Rattle.class_reader.specs.declared.entry.Entry.the-variants.{Package}
-use Rattle.class_reader.proofs.entry.Bodies.{alone-made, entry-named, entry-body}
+use Rattle.class_reader.proofs.entry.Bodies.{alone-made, entry-body}
 use Rattle.class_reader.proofs.class_file.Passes.{isInner, allInner, inner-append}
+use Rattle.class_reader.proofs.class_file.PackageTable.{package-names}
 
 -- ---- tables
 
@@ -64,25 +64,6 @@ names-inner (n ∷ ns) e =
     let m : isBody Kind.Package (nameBytes n) ≡ true = rw append-nil at (alone-made n (and-left (isNameText n) (allNames isNameText ns) e)) in
     rw m (names-inner ns (and-right (isNameText n) (allNames isNameText ns) e))
 
-module _ (f t : List ℕ) where
-  names-told : (n p : ℕ) → entriesGood Package f t n p ≡ true → allNames isNameText (namesAt f t n p) ≡ true
-  unfolding entriesGood entryEnd namesAt allNames
-  names-told zero p g = refl
-  names-told (suc n) p g =
-      rw (entry-named Package f t p (and-left (isEntry Package f t p) (entriesGood Package f t n (p + 2)) g))
-      (names-told n (p + 2) (and-right (isEntry Package f t p) (entriesGood Package f t n (p + 2)) g))
-
-  package-names : (at : ℕ) → (eqb at 0 ≡ false → tableGood Package f t (at + 6) ≡ true) → allNames isNameText (packageNames f t at) ≡ true
-  unfolding packageNames allNames tableGood
-  package-names at g = go (eqb at 0) refl
-    where
-      go : (z : Bool) → eqb at 0 ≡ z → allNames isNameText (cond z [] (namesAt f t (u16At f (at + 6)) (at + 8))) ≡ true
-      go true e = refl
-      go false e =
-          let w : at + 6 + 2 ≡ at + 8 = omega arith in
-          names-told (u16At f (at + 6)) (at + 8)
-          (rw w at (and-right (leb (at + 6 + 2) (length f)) (entriesGood Package f t (u16At f (at + 6)) (at + 6 + 2)) (g e)))
-
-  pub packages-inner : (at : ℕ) → (eqb at 0 ≡ false → tableGood Package f t (at + 6) ≡ true) → allInner (packageItems f t at) ≡ true
-  unfolding packageItems
-  packages-inner at g = names-inner (ordered (packageNames f t at)) (ordered-all isNameText (packageNames f t at) (package-names at g))
+pub packages-inner : (f t : List ℕ) (at : ℕ) → (eqb at 0 ≡ false → tableGood Package f t (at + 6) ≡ true) → allInner (packageItems f t at) ≡ true
+unfolding packageItems
+packages-inner f t at g = names-inner (ordered (packageNames f t at)) (ordered-all isNameText (packageNames f t at) (package-names f t at g))

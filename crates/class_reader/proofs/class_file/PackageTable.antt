@@ -5,13 +5,14 @@ use mathlib.Core.List.{List, [], _∷_}
 use mathlib.Core.Bool.{Bool, true, false, cond, _&&_}
 use native.Mathlib.Omega.{arith}
 use lib.ListN.{length}
-use lib.Dec.{leb, eqb}
-use borrow.Author.Tests.{le-leb, leb-true}
+use lib.Dec.{ltb, leb, eqb}
+use borrow.Author.Tests.{leb-true}
 use Rattle.records.specs.Bytes.{sameBytes, beforeBytes, u16At}
+use Rattle.records.specs.Name.{printable}
 use Rattle.records.specs.Order.{insertName, orderedFrom, ordered, allNames, isShort, allShort}
 use Rattle.records.proofs.Logic.{and-left, and-right}
 use Rattle.records.proofs.output.Sizes.{names-long}
-use Rattle.class_reader.specs.Pool.{hasName, nameAt}
+use Rattle.class_reader.specs.Pool.{isNameText, hasName}
 use Rattle.class_reader.specs.Entry.{namesAt, nameTag, entryEnd, restGood, isEntry, entriesGood, tableGood}
 use Rattle.class_reader.specs.Attribute.{packageNames}
 use Rattle.class_reader.specs.Packages.{NamesOrdered}
@@ -19,33 +20,31 @@ use Rattle.class_reader.specs.Reader.{packageCount, Ordered}
 use Rattle.class_reader.specs.Walk.{Readable}
 use Rattle.class_reader.specs.declared.entry.Entry.the-variants.{Package}
 use Rattle.class_reader.specs.declared.attribute.Seen.{Seen}
-use Rattle.class_reader.proofs.entry.Names.{name-short}
+use Rattle.class_reader.proofs.entry.Bodies.{entry-named}
 
 -- ---- good indices
 
-short-is : (n : List ℕ) → length n ≤ 255 → isShort n ≡ true
-unfolding isShort
-short-is n l = le-leb (length n) 255 l
+-- names that obey the name rule are short
+short-all : (ns : List (List ℕ)) → allNames isNameText ns ≡ true → allShort ns ≡ true
+unfolding allShort allNames isShort isNameText
+short-all [] e = refl
+short-all (n ∷ ns) e =
+    let g : (ltb 0 (length n) && (leb (length n) 255 && printable n)) ≡ true =
+    and-left (ltb 0 (length n) && (leb (length n) 255 && printable n)) (allNames isNameText ns) e in
+    rw (and-left (leb (length n) 255) (printable n) (and-right (ltb 0 (length n)) (leb (length n) 255 && printable n) g))
+    (short-all ns (and-right (isNameText n) (allNames isNameText ns) e))
 
 module _ (f t : List ℕ) where
   package-low : (p : ℕ) → isEntry Package f t p ≡ true → p + 2 ≤ length f
   unfolding isEntry entryEnd
   package-low p h = leb-true (p + 2) (length f) (and-left (leb (p + 2) (length f)) (hasName (nameTag Package) f t (u16At f p) && restGood Package f t p) h)
 
-  package-short : (p : ℕ) → isEntry Package f t p ≡ true → isShort (nameAt f t (u16At f p)) ≡ true
-  unfolding isEntry
-  package-short p h =
-      let named : (hasName (nameTag Package) f t (u16At f p) && restGood Package f t p) ≡ true =
-      and-right (leb (entryEnd Package f p) (length f)) (hasName (nameTag Package) f t (u16At f p) && restGood Package f t p) h in
-      short-is (nameAt f t (u16At f p))
-      (name-short (nameTag Package) f t (u16At f p) (and-left (hasName (nameTag Package) f t (u16At f p)) (restGood Package f t p) named))
-
-  entries-short : (n p : ℕ) → entriesGood Package f t n p ≡ true → allShort (namesAt f t n p) ≡ true
-  unfolding entriesGood namesAt allShort allNames entryEnd
-  entries-short zero p h = refl
-  entries-short (suc n) p h =
-      rw (package-short p (and-left (isEntry Package f t p) (entriesGood Package f t n (p + 2)) h))
-      (entries-short n (p + 2) (and-right (isEntry Package f t p) (entriesGood Package f t n (p + 2)) h))
+  names-told : (n p : ℕ) → entriesGood Package f t n p ≡ true → allNames isNameText (namesAt f t n p) ≡ true
+  unfolding entriesGood entryEnd namesAt allNames
+  names-told zero p g = refl
+  names-told (suc n) p g =
+      rw (entry-named Package f t p (and-left (isEntry Package f t p) (entriesGood Package f t n (p + 2)) g))
+      (names-told n (p + 2) (and-right (isEntry Package f t p) (entriesGood Package f t n (p + 2)) g))
 
   entries-few : (n p : ℕ) → p ≤ length f → entriesGood Package f t n p ≡ true → p + 2 * n ≤ length f
   unfolding entriesGood entryEnd
@@ -66,9 +65,6 @@ module _ (f t : List ℕ) where
         (leb-true (p + 2) (length f) (and-left (leb (p + 2) (length f)) (entriesGood Package f t (u16At f p) (p + 2)) h))
         table-entries
 
-    table-short : allShort (namesAt f t (u16At f p) (p + 2)) ≡ true
-    table-short = entries-short (u16At f p) (p + 2) table-entries
-
 -- ---- the indices of the attribute
 
 module _ (f t : List ℕ) (at : ℕ) where
@@ -80,6 +76,17 @@ module _ (f t : List ℕ) (at : ℕ) where
       go true w = rw w
       go false w = rw w
 
+  -- they obey the name rule
+  pub package-names : (eqb at 0 ≡ false → tableGood Package f t (at + 6) ≡ true) → allNames isNameText (packageNames f t at) ≡ true
+  unfolding packageNames allNames
+  package-names g = go (eqb at 0) refl
+    where
+      go : (z : Bool) → eqb at 0 ≡ z → allNames isNameText (cond z [] (namesAt f t (u16At f (at + 6)) (at + 8))) ≡ true
+      go true e = refl
+      go false e =
+          let w : at + 6 + 2 ≡ at + 8 = omega arith in
+          names-told f t (u16At f (at + 6)) (at + 8) (rw w at (table-entries f t (at + 6) (g e)))
+
 module _ (f t : List ℕ) (s : Seen) (h : Readable f t s) where
   pub count-few : length f ≤ 65535 → packageCount f (s .packages) ≤ 32768
   unfolding packageCount
@@ -90,14 +97,7 @@ module _ (f t : List ℕ) (s : Seen) (h : Readable f t s) where
       go false e = omega (arith, table-few f t (s .packages + 6) (h .packages-good e))
 
   pub names-short : allShort (packageNames f t (s .packages)) ≡ true
-  unfolding packageNames allShort allNames
-  names-short = go (eqb (s .packages) 0) refl
-    where
-      go : (b : Bool) → eqb (s .packages) 0 ≡ b → allShort (cond b [] (namesAt f t (u16At f (s .packages + 6)) (s .packages + 8))) ≡ true
-      go true e = refl
-      go false e =
-          let p : s .packages + 6 + 2 ≡ s .packages + 8 = omega arith in
-          rw p at (table-short f t (s .packages + 6) (h .packages-good e))
+  names-short = short-all (packageNames f t (s .packages)) (package-names f t (s .packages) (h .packages-good))
 
   pub order-short : (n : ℕ) → n ≡ packageCount f (s .packages) → allShort (namesAt f t n (s .packages + 8)) ≡ true
   order-short n e = rw (names-of f t (s .packages) n e) names-short
