@@ -16,6 +16,14 @@ edge g i j = ltb j 256 && bit (getD g (i * 4 + j / 64) 0) (j % 64)
 pub record Successors (g : List ℕ) (i : ℕ) (ws : List ℕ) : Type 0 where
   pub each : (j : ℕ) → holds ws j ≡ edge g i j
 
+-- there is an edge from i to j, and j is not held
+unfoldable pub lacks : List ℕ → ℕ → List ℕ → ℕ → Bool
+lacks g i out j = edge g i j && not (holds out j)
+
+-- ws holds the positions that an edge from i leads to and that `out` does not hold, and no other
+pub record Lacking (g : List ℕ) (i : ℕ) (out ws : List ℕ) : Type 0 where
+  pub each : (j : ℕ) → holds ws j ≡ lacks g i out j
+
 -- there is a path of one edge or more from m to k
 pub data Reach (g : List ℕ) (m : ℕ) : ℕ → Type 0 where
   step : {k : ℕ} → edge g m k ≡ true → Reach g m k

@@ -40,3 +40,10 @@ pub record United (a b ws : List ℕ) : Type 0 where
 pub record Added (before : List ℕ) (k : ℕ) (after : List ℕ) : Type 0 where
   pub below : k < 256 → (j : ℕ) → holds after j ≡ holds before j || eqb j k
   pub above : 256 ≤ k → after ≡ before
+
+-- r is the first number from k on that satisfies p, n where there is none below n
+pub record FirstFrom (p : ℕ → Bool) (k n r : ℕ) : Type 0 where
+  pub from : k ≤ r
+  pub within : r ≤ n
+  pub none : (i : ℕ) → k ≤ i → i < r → p i ≡ false
+  pub found : r < n → p r ≡ true

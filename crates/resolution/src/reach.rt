@@ -1,9 +1,11 @@
 // What modules reach by edges, in a graph of 256 rows of four words.
 ghost use mathlib.Core.Path.{_≡_};
+ghost use Prim.Native.Nat.{_<_, _≤_};
 ghost use lib.ListN.{length};
-ghost use Rattle.resolution.specs.Graph.{edge, AddedEdge, Collected, ReachedFrom};
+ghost use Rattle.resolution.specs.Row.{FirstFrom};
+ghost use Rattle.resolution.specs.Graph.{edge, lacks, AddedEdge, Lacking, Collected, ReachedFrom};
 use crate::row::Row;
-use crate::row::has;
+use crate::row::next_in;
 use crate::row::with;
 use crate::word::word_has;
 use crate::word::word_with;
@@ -36,6 +38,35 @@ pub fn set_edge(g: &mut [u64], i: usize, j: usize)
     }
 }
 
+// The positions that an edge from m leads to and that out does not hold.
+fn lacking(g: &[u64], m: usize, out: Row) -> Row
+    requires { ⌜ length (now g) ≡ 1024 ⌝ }
+    requires { ⌜ m < 256 ⌝ }
+    ensures { λ r. ⌜ Lacking (now (g .entry)) m (out .words) (r .words) ⌝ }
+{
+    let x = out.words;
+    let at = m * 4;
+    let words = [
+        g[at] & !x[0],
+        g[at + 1] & !x[1],
+        g[at + 2] & !x[2],
+        g[at + 3] & !x[3],
+    ];
+    Row { words }
+}
+
+// The first position from k on that an edge from m leads to and that out does not hold, 256 where there is none.
+fn next_edge(g: &[u64], m: usize, out: Row, k: usize) -> usize
+    requires { ⌜ length (now g) ≡ 1024 ⌝ }
+    requires { ⌜ k ≤ 256 ⌝ }
+    ensures { λ r. ⌜ FirstFrom (lacks (now (g .entry)) m (out .words)) k 256 r ⌝ }
+{
+    if m < 256 {
+        return next_in(lacking(g, m, out), k);
+    }
+    256
+}
+
 // The marks, and what m reaches by positions that they do not hold.
 pub fn collect_transitive_reads(g: &[u64], m: usize, marks: Row) -> Row
     requires { ⌜ length (now g) ≡ 1024 ⌝ }
@@ -44,13 +75,12 @@ pub fn collect_transitive_reads(g: &[u64], m: usize, marks: Row) -> Row
     let mut out = marks;
     let mut k = 0;
     while k < 256 {
-        let j = k;
-        k += 1;
-        if edge_at(g, m, j) {
-            if !has(out, j) {
-                out = collect_transitive_reads(g, j, with(out, j));
-            }
+        let j = next_edge(g, m, out, k);
+        if 256 <= j {
+            return out;
         }
+        k = j + 1;
+        out = collect_transitive_reads(g, j, with(out, j));
     }
     out
 }
@@ -63,11 +93,12 @@ pub fn reachable_from(g: &[u64], from: Row) -> Row
     let mut out = from;
     let mut k = 0;
     while k < 256 {
-        let m = k;
-        k += 1;
-        if has(from, m) {
-            out = collect_transitive_reads(g, m, out);
+        let m = next_in(from, k);
+        if 256 <= m {
+            return out;
         }
+        k = m + 1;
+        out = collect_transitive_reads(g, m, out);
     }
     out
 }

@@ -1,17 +1,20 @@
--- The edges of a graph: none leads past 255, one is added by a bit of a word.
+-- The edges of a graph: none leads past 255, one is added by a bit of a word, and those to what a row does not hold.
 use mathlib.Core.Path.{_≡_, refl, sym, ap, ap₂, _∙_}
-use mathlib.Core.Bool.{Bool, true, false, _||_, _&&_, and-false, or-false}
+use mathlib.Core.Bool.{Bool, true, false, not, _||_, _&&_, and-false, or-false}
 use mathlib.Core.List.{List, [], _∷_}
-use Prim.Native.Nat.{ℕ, zero, suc, _+_, _*_, _/_, _%_, _≤_, _<_}
+use Prim.Native.Nat.{ℕ, zero, suc, _+_, _-_, _*_, _/_, _%_, _^_, _≤_, _<_}
 use native.Mathlib.Omega.{arith}
 use lib.Dec.{eqb, ltb}
 use lib.ListN.{length, getD, set, replicate, List·getD-eq-default}
 use native.Mathlib.Nat.{add-zero}
 use lib.Seq.{getD-set-same, getD-set-other}
 use borrow.Author.Tests.{eq-eqb, ne-eqb, eqb-true, eqb-false, ltb-true, ltb-false, lt-ltb, le-ltb}
-use Rattle.resolution.specs.Row.{bit, holds}
-use Rattle.resolution.specs.Graph.{edge, AddedEdge}
-use Rattle.resolution.proofs.row.Bits.{bit-zero}
+use mir.Syntax.{w64}
+use mir.Val.{Fits}
+use lib.Bits.{bitAnd}
+use Rattle.resolution.specs.Row.{bit, holds, FirstFrom}
+use Rattle.resolution.specs.Graph.{edge, lacks, AddedEdge, Lacking}
+use Rattle.resolution.proofs.row.Bits.{bit-zero, bit-and, bit-not}
 use Rattle.resolution.proofs.row.Laws.{eqb-parts, holds-out, zero-at}
 
 -- the edge's bit
@@ -135,3 +138,58 @@ pub added-target : (g : List ℕ) (i j : ℕ) → 256 ≤ j → AddedEdge g i j 
 added-target g i j h = record { edges = λ _ l. absurd (omega arith); past-source = λ _. refl; past-target = λ _. refl }
 
 pub ruleset added-laws = (added-in, added-source, added-target)
+
+-- ---- the edges to what a row does not hold
+
+-- one word: the edges that a word of the row does not hold
+abbrev pub lackWord : ℕ → ℕ → ℕ
+lackWord w x = bitAnd w ((2 ^ 64 - 1) - x)
+
+abbrev pub lackWords : List ℕ → ℕ → List ℕ → List ℕ
+lackWords g i out =
+    lackWord (getD g (i * 4) 0) (getD out 0 0) ∷ lackWord (getD g (i * 4 + 1) 0) (getD out 1 0)
+    ∷ lackWord (getD g (i * 4 + 2) 0) (getD out 2 0) ∷ lackWord (getD g (i * 4 + 3) 0) (getD out 3 0) ∷ []
+
+lack-at : (g : List ℕ) (i : ℕ) (out : List ℕ) (k : ℕ) → k < 4 → getD (lackWords g i out) k 0 ≡ lackWord (getD g (i * 4 + k) 0) (getD out k 0)
+lack-at g i out zero h = ap (λ (n : ℕ). lackWord (getD g n 0) (getD out 0 0)) (sym (add-zero (i * 4)))
+lack-at g i out (suc zero) h = refl
+lack-at g i out (suc (suc zero)) h = refl
+lack-at g i out (suc (suc (suc zero))) h = refl
+lack-at g i out (suc (suc (suc (suc k)))) h = absurd (omega arith)
+
+pub lacking-is : (g : List ℕ) (i : ℕ) (out : List ℕ) → ((k : ℕ) → Fits w64 (getD out k 0)) → Lacking g i out (lackWords g i out)
+unfolding lacks holds
+lacking-is g i out f = record { each = λ j. go j (ltb j 256) refl }
+  where
+    go : (j : ℕ) (t : Bool) → ltb j 256 ≡ t → holds (lackWords g i out) j ≡ edge g i j && not (holds out j)
+    go j true h =
+        let l : j < 256 = ltb-true j 256 h in
+        let w = getD g (i * 4 + j / 64) 0 in
+        let x = getD out (j / 64) 0 in
+        ap (λ (y : ℕ). bit y (j % 64)) (lack-at g i out (j / 64) (omega arith))
+        ∙ bit-and w ((2 ^ 64 - 1) - x) (j % 64)
+        ∙ ap₂ (λ (s t : Bool). s && t) (sym (edge-is g i j l)) (bit-not 64 x (j % 64) (f (j / 64) .fits) (omega arith))
+    go j false h =
+        let l : 256 ≤ j = ltb-false j 256 h in
+        holds-out (lackWords g i out) j refl l ∙ ap (λ (t : Bool). t && not (holds out j)) (sym (edge-past g i j l))
+
+-- the next position of the row of such edges is the next such edge
+pub next-lacking : (g : List ℕ) (i : ℕ) (out ws : List ℕ) (k r : ℕ) → Lacking g i out ws → FirstFrom (holds ws) k 256 r
+    → FirstFrom (lacks g i out) k 256 r
+next-lacking g i out ws k r h n = record {
+  from = n .from;
+  within = n .within;
+  none = λ j f l. sym (h .each j) ∙ n .none j f l;
+  found = λ l. sym (h .each r) ∙ n .found l;
+}
+
+pub no-edge : (g : List ℕ) (i : ℕ) (out : List ℕ) (k : ℕ) → length g ≡ 1024 → k ≤ 256 → 256 ≤ i → FirstFrom (lacks g i out) k 256 256
+unfolding lacks
+no-edge g i out k e h l = record {
+  from = h;
+  within = omega arith;
+  none = λ j _ _. ap (λ (t : Bool). t && not (holds out j)) (edge-out g i j e l);
+  found = λ m. absurd (omega arith);
+}
+
+pub ruleset next-edge-laws = (next-lacking, no-edge)

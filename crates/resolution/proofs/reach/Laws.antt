@@ -1,14 +1,28 @@
 -- The loops of `collect_transitive_reads` and `reachable_from`: a start, each turn, the end, and the fall of the unmarked positions.
-use mathlib.Core.Path.{_≡_, sym, subst, _∙_}
-use mathlib.Core.Bool.{Bool, true, false, not}
+use mathlib.Core.Path.{_≡_, refl, subst}
+use mathlib.Core.Bool.{Bool, true, false, not, _&&_}
 use mathlib.Core.List.{List}
 use Prim.Native.Nat.{ℕ, _+_, _≤_, _<_}
 use native.Mathlib.Omega.{arith}
 use lib.ListN.{length}
-use borrow.Author.Tests.{not-true, not-false}
-use Rattle.resolution.specs.Row.{holds, Added}
-use Rattle.resolution.specs.Graph.{edge, Collected, ReachedFrom, unmarked}
+use Rattle.resolution.specs.Row.{holds, Added, FirstFrom}
+use Rattle.resolution.specs.Graph.{edge, lacks, Collected, ReachedFrom, unmarked}
 use Rattle.resolution.proofs.reach.Search.{Gathered, clash, start, skip, visit, fewer, gather-start, gather-skip, gather-visit, gather-all}
+
+-- an edge to what is not marked: there is the edge, and no mark; where there is none such, an edge leads to a mark
+lack-edge : (a b : Bool) → (a && not b) ≡ true → a ≡ true
+lack-edge true b h = refl
+lack-edge false b h = h
+
+lack-mark : (a b : Bool) → (a && not b) ≡ true → b ≡ false
+lack-mark true true h = absurd (clash false h refl)
+lack-mark true false h = refl
+lack-mark false b h = absurd (clash false h refl)
+
+no-lack : (a b : Bool) → (a && not b) ≡ false → a ≡ true → b ≡ true
+no-lack true true h e = refl
+no-lack true false h e = absurd (clash true refl h)
+no-lack false b h e = absurd (clash false e refl)
 
 -- the successors of m below k are looked at
 pub record CollectAt (g : List ℕ) (m : ℕ) (before out : List ℕ) (k : ℕ) : Type 0 where
@@ -19,34 +33,35 @@ pub collect-start : (g : List ℕ) (m : ℕ) (ws : List ℕ) → CollectAt g m w
 collect-start g m ws = record { within = omega arith; so-far = start g m ws }
 
 module _ {g : List ℕ} {m : ℕ} {before out : List ℕ} {k : ℕ} (h : CollectAt g m before out k) where
-  -- k is no successor
-  pub collect-no-edge : (r : Bool) → k < 256 → r ≡ edge g m k → r ≡ false → CollectAt g m before out (k + 1)
-  collect-no-edge r l e f = record {
-    within = omega arith;
-    so-far = skip g m k before out (h .so-far) (λ d. absurd (clash (edge g m k) d (sym e ∙ f)));
-  }
+  -- from k to the next successor j that is not marked
+  module _ (j : ℕ) (n : FirstFrom (lacks g m out) k 256 j) where
+    passed : Collected g m j before out
+    unfolding lacks
+    passed = skip g m k j before out (h .so-far) (λ i f l e. no-lack (edge g m i) (holds out i) (n .none i f l) e)
 
-  -- k is marked
-  pub collect-marked : (r : Bool) → k < 256 → r ≡ holds out k → not r ≡ false → CollectAt g m before out (k + 1)
-  collect-marked r l e f = record { within = omega arith; so-far = skip g m k before out (h .so-far) (λ d. sym e ∙ not-false r f) }
+    -- there is none
+    pub collect-none : 256 ≤ j → Collected g m 256 before out
+    collect-none l = let q : j ≡ 256 = omega (arith, n .within) in subst (λ (i : ℕ). Collected g m i before out) q passed
 
-  -- k is marked now, and visited
-  pub collect-visit : (marked after : List ℕ) (r : Bool) → k < 256 → r ≡ edge g m k → r ≡ true → Added out k marked
-      → Collected g k 256 marked after → CollectAt g m before after (k + 1)
-  collect-visit marked after r l e f w v = record {
-    within = omega arith;
-    so-far = visit g m k before out marked after (h .so-far) (sym e ∙ f) (w .below l) v;
-  }
+    -- j is marked now, and visited
+    pub collect-visit : (marked after : List ℕ) → j < 256 → Added out j marked → Collected g j 256 marked after
+        → CollectAt g m before after (j + 1)
+    unfolding lacks
+    collect-visit marked after l w v = record {
+      within = omega arith;
+      so-far = visit g m j before out marked after passed (lack-edge (edge g m j) (holds out j) (n .found l)) (w .below l) v;
+    }
 
-  pub collect-fewer : (marked : List ℕ) (r : Bool) (t : ℕ) → k < 256 → r ≡ holds out k → not r ≡ true → Added out k marked
-      → unmarked before ≡ t → unmarked marked < t
-  collect-fewer marked r t l e f w q =
-      subst (λ (n : ℕ). unmarked marked < n) q (fewer g m k before out marked l (h .so-far) (sym e ∙ not-true r f) (w .below l))
+    pub collect-fewer : (marked : List ℕ) (t : ℕ) → j < 256 → Added out j marked → unmarked before ≡ t → unmarked marked < t
+    unfolding lacks
+    collect-fewer marked t l w q =
+        subst (λ (x : ℕ). unmarked marked < x) q
+        (fewer g m j before out marked l passed (lack-mark (edge g m j) (holds out j) (n .found l)) (w .below l))
 
   pub collect-end : 256 ≤ k → Collected g m 256 before out
-  collect-end l = let n : k ≡ 256 = omega (arith, h .within) in subst (λ (i : ℕ). Collected g m i before out) n (h .so-far)
+  collect-end l = let q : k ≡ 256 = omega (arith, h .within) in subst (λ (i : ℕ). Collected g m i before out) q (h .so-far)
 
-pub ruleset collect-laws = (collect-start, collect-no-edge, collect-marked, collect-visit, collect-fewer, collect-end)
+pub ruleset collect-laws = (collect-start, collect-none, collect-visit, collect-fewer, collect-end)
 
 -- the positions of `from` below k are visited
 pub record GatherAt (g from out : List ℕ) (k : ℕ) : Type 0 where
@@ -57,16 +72,23 @@ pub reach-start : (g from : List ℕ) → GatherAt g from from 0
 reach-start g from = record { within = omega arith; so-far = gather-start g from }
 
 module _ {g from out : List ℕ} {k : ℕ} (h : GatherAt g from out k) where
-  pub reach-skip : (r : Bool) → k < 256 → r ≡ holds from k → r ≡ false → GatherAt g from out (k + 1)
-  reach-skip r l e f = record { within = omega arith; so-far = gather-skip g from k out (h .so-far) (sym e ∙ f) }
+  -- from k to the next position m of the row
+  module _ (m : ℕ) (n : FirstFrom (holds from) k 256 m) where
+    gathered : Gathered g m from out
+    gathered = gather-skip g from k m out (h .so-far) (n .none)
 
-  pub reach-visit : (after : List ℕ) (r : Bool) → k < 256 → r ≡ holds from k → r ≡ true → Collected g k 256 out after
-      → GatherAt g from after (k + 1)
-  reach-visit after r l e f v = record { within = omega arith; so-far = gather-visit g from k out after (h .so-far) (sym e ∙ f) v }
+    -- there is none
+    pub reach-none : length g ≡ 1024 → 256 ≤ m → ReachedFrom g from out
+    reach-none e l =
+        let q : m ≡ 256 = omega (arith, n .within) in
+        gather-all g from out e (subst (λ (i : ℕ). Gathered g i from out) q gathered)
+
+    pub reach-visit : (after : List ℕ) → m < 256 → Collected g m 256 out after → GatherAt g from after (m + 1)
+    reach-visit after l v = record { within = omega arith; so-far = gather-visit g from m out after gathered (n .found l) v }
 
   pub reach-end : length g ≡ 1024 → 256 ≤ k → ReachedFrom g from out
-  reach-end n l =
+  reach-end e l =
       let q : k ≡ 256 = omega (arith, h .within) in
-      gather-all g from out n (subst (λ (i : ℕ). Gathered g i from out) q (h .so-far))
+      gather-all g from out e (subst (λ (i : ℕ). Gathered g i from out) q (h .so-far))
 
-pub ruleset reach-laws = (reach-start, reach-skip, reach-visit, reach-end)
+pub ruleset reach-laws = (reach-start, reach-none, reach-visit, reach-end)

@@ -48,13 +48,14 @@ module _ (g : List ℕ) (m : ℕ) where
   pub start : (ws : List ℕ) → Collected g m 0 ws ws
   start ws = record { kept = λ j h. h; sound = λ j h. inl h; closed = λ j h. inl h; next = λ k l e. absurd (omega arith) }
 
-  -- k is no successor, or is marked
-  pub skip : (k : ℕ) (before out : List ℕ) → Collected g m k before out → (edge g m k ≡ true → holds out k ≡ true) → Collected g m (k + 1) before out
-  skip k before out s h = record {
+  -- none from k on and before n is a successor that is not marked
+  pub skip : (k n : ℕ) (before out : List ℕ) → Collected g m k before out
+      → ((j : ℕ) → k ≤ j → j < n → edge g m j ≡ true → holds out j ≡ true) → Collected g m n before out
+  skip k n before out s h = record {
     kept = s .kept;
     sound = s .sound;
     closed = s .closed;
-    next = λ j l e. ⊎-elim (λ q. subst (λ (i : ℕ). holds out i ≡ true) (sym q) (h (subst (λ (i : ℕ). edge g m i ≡ true) q e))) (λ b. s .next j b e) (below-next k j l);
+    next = λ j l e. ⊎-elim (λ b. s .next j b e) (λ b. h j b l e) (lt-or-le j k);
   }
 
   -- k is a successor, and is marked and visited
@@ -114,13 +115,13 @@ module _ (g from : List ℕ) where
   pub gather-start : Gathered g 0 from from
   gather-start = record { kept = λ j h. h; sound = λ j h. inl h; closed = λ j h. inl h; next = λ m l h k e. absurd (omega arith) }
 
-  -- k is not in the row
-  pub gather-skip : (k : ℕ) (out : List ℕ) → Gathered g k from out → holds from k ≡ false → Gathered g (k + 1) from out
-  gather-skip k out s out-of = record {
+  -- none from k on and before n is in the row
+  pub gather-skip : (k n : ℕ) (out : List ℕ) → Gathered g k from out → ((m : ℕ) → k ≤ m → m < n → holds from m ≡ false) → Gathered g n from out
+  gather-skip k n out s none = record {
     kept = s .kept;
     sound = s .sound;
     closed = s .closed;
-    next = λ m l h i e. ⊎-elim (λ q. absurd (clash (holds from m) h (subst (λ (x : ℕ). holds from x ≡ false) (sym q) out-of))) (λ b. s .next m b h i e) (below-next k m l);
+    next = λ m l h i e. ⊎-elim (λ b. s .next m b h i e) (λ b. absurd (clash (holds from m) h (none m b l))) (lt-or-le m k);
   }
 
   -- k is in the row, and is visited

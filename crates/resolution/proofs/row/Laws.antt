@@ -12,7 +12,7 @@ use mir.Syntax.{w64}
 use mir.Val.{Fits}
 use lib.Bits.{bitOr}
 use borrow.Author.Tests.{eq-eqb, ne-eqb, eqb-true, eqb-false, ltb-true, ltb-false}
-use Rattle.resolution.specs.Row.{bit, holds, countBelow, size, Empty, United, Added}
+use Rattle.resolution.specs.Row.{bit, holds, countBelow, size, Empty, United, Added, FirstFrom}
 use Rattle.resolution.proofs.row.Bits.{bit-zero, bit-or}
 use Rattle.resolution.proofs.row.Counts.{count-zero, count-add, count-same, count-none, none-of-count, ones-bits}
 
@@ -139,6 +139,56 @@ ones-64 w f = ones-le 64 w (f .fits)
 
 pub is-empty-is : (n m : ℕ) → n ≡ m → eqb n 0 ≡ eqb m 0
 is-empty-is n m e = ap (λ (x : ℕ). eqb x 0) e
+
+-- ---- the next position: none from k on and before `at` is held
+pub record NextAt (ws : List ℕ) (k at : ℕ) : Type 0 where
+  pub from : k ≤ at
+  pub within : at ≤ 256
+  pub none : (i : ℕ) → k ≤ i → i < at → holds ws i ≡ false
+
+pub next-start : (ws : List ℕ) (k : ℕ) → k ≤ 256 → NextAt ws k k
+next-start ws k h = record { from = omega arith; within = h; none = λ i f l. absurd (omega arith) }
+
+module _ {ws : List ℕ} {k at : ℕ} (h : NextAt ws k at) where
+  -- nor is any before bit b of the word of `at`, the first that is set there
+  clear : (b : ℕ) → FirstFrom (bit (getD ws (at / 64) 0)) (at % 64) 64 b → (i : ℕ) → k ≤ i → i < at / 64 * 64 + b → holds ws i ≡ false
+  unfolding holds
+  clear b o i f l = go (ltb i at) refl
+    where
+      go : (t : Bool) → ltb i at ≡ t → holds ws i ≡ false
+      go true e = h .none i f (ltb-true i at e)
+      go false e =
+          let g : at ≤ i = ltb-false i at e in
+          let m : b ≤ 64 = o .within in
+          let q : i / 64 ≡ at / 64 = omega arith in
+          ap (λ (x : ℕ). bit (getD ws x 0) (i % 64)) q ∙ o .none (i % 64) (omega arith) (omega arith)
+
+  pub next-found : (b : ℕ) → at < 256 → FirstFrom (bit (getD ws (at / 64) 0)) (at % 64) 64 b → b < 64
+      → FirstFrom (holds ws) k 256 (at / 64 * 64 + b)
+  unfolding holds
+  next-found b a o l =
+      let q : (at / 64 * 64 + b) / 64 ≡ at / 64 = omega arith in
+      let r : (at / 64 * 64 + b) % 64 ≡ b = omega arith in
+      record {
+        from = omega (arith, h .from, o .from);
+        within = omega arith;
+        none = clear b o;
+        found = λ _. ap₂ (λ (x y : ℕ). bit (getD ws x 0) y) q r ∙ o .found l;
+      }
+
+  pub next-on : (b : ℕ) → at < 256 → FirstFrom (bit (getD ws (at / 64) 0)) (at % 64) 64 b → 64 ≤ b → NextAt ws k (at / 64 * 64 + 64)
+  next-on b a o l =
+      record { from = omega (arith, h .from); within = omega arith; none = λ i f g. clear b o i f (omega arith) }
+
+  pub next-end : 256 ≤ at → FirstFrom (holds ws) k 256 256
+  next-end l = record {
+    from = omega (arith, h .from, h .within);
+    within = omega arith;
+    none = λ i f g. h .none i f (omega arith);
+    found = λ g. absurd (omega arith);
+  }
+
+pub ruleset next-laws = (next-start, next-found, next-on, next-end)
 
 pub ruleset has-laws = (has-in, has-out)
 

@@ -8,8 +8,7 @@ use Rattle.resolution.proofs.reach.Laws.{CollectAt, collect-laws}
 use Rattle.resolution.proofs.reach.collect_transitive_reads.Reads as own
 use Rattle.resolution.proofs.reach.collect_transitive_reads.Kinds as kinds
 use Rattle.resolution.proofs.reach.+collect_transitive_reads.Lts-collect_transitive_reads as lts
-use Rattle.resolution.proofs.reach.edge_at.Reads as edge-at-reads
-use Rattle.resolution.proofs.row.has.Reads as has-reads
+use Rattle.resolution.proofs.reach.next_edge.Reads as next-edge-reads
 use Rattle.resolution.proofs.row.with.Reads as with-reads
 use Rattle.resolution.proofs.reach.+collect_transitive_reads.{statement}
 use Rattle.resolution.proofs.reach.+collect_transitive_reads.Tie.{close}
@@ -25,10 +24,8 @@ below t = and 1 kinds.ps (falls 1 kinds.ps _<_ μ t) own.Pre
 
 abbrev claims : ℕ → lts.Claims
 claims t = (
-  edge-at-reads.Asked,
-  edge-at-reads.Learnt,
-  has-reads.Asked,
-  has-reads.Learnt,
+  next-edge-reads.Asked,
+  next-edge-reads.Learnt,
   with-reads.Asked,
   with-reads.Learnt,
   below t,
@@ -44,15 +41,11 @@ abbrev μ-loop : lts.MeasureT-loop
 pub +collect-transitive-reads-spec : {M : Type 1} → statement M
 +collect-transitive-reads-spec = close μ λ t. lts.spec (claims t) (at t) own.Post Inv-loop μ-loop
     (λ c. search (collect-laws, needs))
-    (λ c. search (collect-laws, needs))
-    (λ c κs. search (collect-laws, needs))
-    (λ c κs. search (collect-laws, needs))
-    (λ c κs. search (collect-laws, needs))
     (λ c κs. search (collect-laws, needs))
     (λ c. search (collect-laws, needs))
     (λ c. search (collect-laws, needs))
-    (λ c. search (collect-laws, needs))
-    (λ c. search (collect-laws, needs))
+    (λ c κs. search (collect-laws, needs))
+    (λ c κs. search (collect-laws, needs))
     (λ c. search (collect-laws, needs))
     (λ c. search (collect-laws, needs))
     (λ c. search (collect-laws, needs))

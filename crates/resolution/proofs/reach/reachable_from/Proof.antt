@@ -17,11 +17,10 @@ reachable-from-spec =
     Inv-loop
     μ-loop
     (λ c. search (reach-laws, needs))
-    (λ c. search (reach-laws, needs))
-    (λ c κs. search (reach-laws, needs))
     (λ c κs. search (reach-laws, needs))
     (λ c. search (reach-laws, needs))
     (λ c. search (reach-laws, needs))
+    (λ c κs. search (reach-laws, needs))
     (λ c. search (reach-laws, needs))
     (λ c. search (reach-laws, needs))
     (λ c. search (reach-laws, needs)))

@@ -1,0 +1,26 @@
+use Rattle.resolution.proofs.reach.Edges.{lacking-is}
+use borrow.Author.Needs.{needs}
+use Rattle.resolution.proofs.reach.lacking.Statement.{statement}
+use Rattle.resolution.proofs.reach.lacking.Tie as tie
+
+pub lacking-spec : {M : Type 1} → statement M
+lacking-spec =
+    tie.close
+    (tie.spec
+    (λ c. search needs)
+    (λ c. search needs)
+    (λ c. search needs)
+    (λ c. search needs)
+    (λ c. search needs)
+    (λ c. search needs)
+    (λ c. search needs)
+    (λ c. search needs)
+    (λ c. search needs)
+    (λ c. search needs)
+    (λ c. search needs)
+    (λ c. search needs)
+    (λ c. search needs)
+    (λ c. search needs)
+    (λ c. search needs)
+    (λ c. search needs)
+    (λ c. search (lacking-is, needs)))

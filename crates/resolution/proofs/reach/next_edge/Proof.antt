@@ -1,0 +1,13 @@
+use borrow.Author.Needs.{needs}
+use Rattle.resolution.proofs.reach.Edges.{next-edge-laws}
+use Rattle.resolution.proofs.reach.next_edge.Statement.{statement}
+use Rattle.resolution.proofs.reach.next_edge.Tie as tie
+
+pub next-edge-spec : {M : Type 1} → statement M
+next-edge-spec =
+    tie.close
+    (tie.spec
+    (λ c κs. search (next-edge-laws, needs))
+    (λ c κs. search (next-edge-laws, needs))
+    (λ c. search (next-edge-laws, needs))
+    (λ c. search (next-edge-laws, needs)))
