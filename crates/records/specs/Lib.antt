@@ -4,6 +4,7 @@ pub mod Bytes
 pub mod Descriptor
 pub mod Error
 pub mod Finder
+pub mod Index
 pub mod Jar
 pub mod Name
 pub mod Order

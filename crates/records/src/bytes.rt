@@ -1,24 +1,35 @@
 // Byte strings: equality, byte order, parts, and big-endian numbers.
 ghost use mathlib.Core.Path.{_≡_};
 ghost use Prim.Native.Nat.{_<_};
+ghost use mathlib.Core.Bool.{_&&_};
 ghost use lib.ListN.{getD, take, drop};
+ghost use lib.Dec.{eqb};
 ghost use Rattle.records.specs.Bytes.{sameBytes, beforeBytes, u16At};
 
-// Whether a and b hold the same bytes. The lengths are compared first.
+// Whether `equal` holds and a is b.
+fn and_equal(equal: bool, a: u8, b: u8) -> bool
+    ensures { λ r. ⌜ r ≡ (equal && eqb a b) ⌝ }
+{
+    if a == b {
+        return equal;
+    }
+    false
+}
+
+// Whether a and b hold the same bytes. The lengths are compared first; then all bytes are, several at once.
 pub fn same(a: &[u8], b: &[u8]) -> bool
     ensures { λ r. ⌜ r ≡ sameBytes (now (a .entry)) (now (b .entry)) ⌝ }
 {
     if a.len() != b.len() {
         return false;
     }
+    let mut equal = true;
     let mut i: usize = 0;
     while i < a.len() {
-        if a[i] != b[i] {
-            return false;
-        }
+        equal = and_equal(equal, a[i], b[i]);
         i += 1;
     }
-    true
+    equal
 }
 
 // Whether a stands before b in byte order.

@@ -5,6 +5,7 @@ pub mod bytes;
 pub mod descriptor;
 pub mod error;
 pub mod finder;
+pub mod index;
 pub mod jar;
 pub mod name;
 pub mod order;

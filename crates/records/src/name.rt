@@ -1,7 +1,9 @@
 // Names, versions and lists of names, as they stand at the front of a slice.
 ghost use mathlib.Core.Path.{_≡_};
 ghost use Prim.Native.Nat.{_≤_};
+ghost use mathlib.Core.Bool.{_&&_};
 ghost use lib.ListN.{length};
+ghost use lib.Dec.{leb};
 ghost use Rattle.records.specs.Name.{printable as isPrintable, nameOf, afterName, isField, isName, isNames, isList, isVersion, isNameVersion, isNameList, memName, namesOf, listOf};
 use crate::bytes::be16;
 use crate::bytes::byte;
@@ -9,21 +11,30 @@ use crate::bytes::head;
 use crate::bytes::same;
 use crate::bytes::tail;
 
-// Whether every byte of s is from 0x21 to 0x7E.
+// Whether `good` holds and b is from 0x21 to 0x7E.
+fn and_printable(good: bool, b: u8) -> bool
+    ensures { λ r. ⌜ r ≡ (good && (leb 0x21 b && leb b 0x7E)) ⌝ }
+{
+    if b < 0x21 {
+        return false;
+    }
+    if 0x7E < b {
+        return false;
+    }
+    good
+}
+
+// Whether every byte of s is from 0x21 to 0x7E. All are read, which takes several at once.
 pub fn printable(s: &[u8]) -> bool
     ensures { λ r. ⌜ r ≡ isPrintable (now (s .entry)) ⌝ }
 {
+    let mut good = true;
     let mut i: usize = 0;
     while i < s.len() {
-        if s[i] < 0x21 {
-            return false;
-        }
-        if 0x7E < s[i] {
-            return false;
-        }
+        good = and_printable(good, s[i]);
         i += 1;
     }
-    true
+    good
 }
 
 // The bytes of the name at the front of s, 255 at most.

@@ -1,16 +1,19 @@
 // A set of modules: its check, and the block of each module.
 ghost use mathlib.Core.Path.{_≡_};
 ghost use Prim.Native.Nat.{_≤_};
+ghost use mathlib.Core.List.{map};
 ghost use lib.ListN.{length, getD, take, drop};
 ghost use Rattle.records.specs.Record.{setKind};
-ghost use Rattle.records.specs.Set.{isPlaced, admitAt, passAt, judgeAt, refused, checkSet, blockAt};
+ghost use Rattle.records.specs.Index.{Indexed};
+ghost use Rattle.records.specs.Set.{nameAt, isPlaced, admitAt, passAt, judgeAt, refused, checkSet, blockAt};
 use crate::bytes::part;
 use crate::bytes::same;
 use crate::bytes::tail;
 use crate::error::Input;
 use crate::error::ModuleError;
 use crate::finder::Found;
-use crate::finder::find;
+use crate::index::add;
+use crate::index::find_in;
 use crate::name::name_of;
 use crate::record::Cursor;
 use crate::record::Kind;
@@ -63,8 +66,16 @@ fn is_placed(count: usize, main: bool, kind: Kind) -> bool
     }
 }
 
-fn admit(set: &[u8], starts: &[usize], count: usize, at: usize, body: &[u8]) -> Verdict
+fn admit(
+    set: &[u8],
+    starts: &[usize],
+    count: usize,
+    index: &[u16],
+    at: usize,
+    body: &[u8],
+) -> Verdict
     requires { ⌜ count ≤ length (now starts) ⌝ }
+    requires { ⌜ Indexed (map (nameAt (now set)) (take count (now starts))) (now index) ⌝ }
     ensures { λ r. ⌜ r ≡ admitAt (now (set .entry)) (take count (now (starts .entry))) at (now (body .entry)) ⌝ }
 {
     if 256 <= count {
@@ -74,18 +85,27 @@ fn admit(set: &[u8], starts: &[usize], count: usize, at: usize, body: &[u8]) -> 
     if same(name, b"ALL-UNNAMED") {
         return Verdict::Stop(ModuleError::Repeated(at));
     }
-    match find(set, starts, count, name) {
+    match find_in(set, starts, count, index, name) {
         Found::At(_) => Verdict::Stop(ModuleError::Repeated(at)),
         Found::Nothing => Verdict::Start,
     }
 }
 
-fn pass(set: &[u8], starts: &[usize], count: usize, at: usize, kind: Kind, body: &[u8]) -> Verdict
+fn pass(
+    set: &[u8],
+    starts: &[usize],
+    count: usize,
+    index: &[u16],
+    at: usize,
+    kind: Kind,
+    body: &[u8],
+) -> Verdict
     requires { ⌜ count ≤ length (now starts) ⌝ }
+    requires { ⌜ Indexed (map (nameAt (now set)) (take count (now starts))) (now index) ⌝ }
     ensures { λ r. ⌜ r ≡ passAt (now (set .entry)) (take count (now (starts .entry))) at kind (now (body .entry)) ⌝ }
 {
     match kind {
-        Kind::Module => admit(set, starts, count, at, body),
+        Kind::Module => admit(set, starts, count, index, at, body),
         Kind::MainClass => Verdict::Main,
         _ => Verdict::Pass,
     }
@@ -95,6 +115,7 @@ fn judge(
     set: &[u8],
     starts: &[usize],
     count: usize,
+    index: &[u16],
     main: bool,
     at: usize,
     mark: usize,
@@ -102,13 +123,14 @@ fn judge(
     len: usize,
 ) -> Verdict
     requires { ⌜ count ≤ length (now starts) ⌝ }
+    requires { ⌜ Indexed (map (nameAt (now set)) (take count (now starts))) (now index) ⌝ }
     ensures { λ r. ⌜ r ≡ judgeAt (now (set .entry)) (take count (now (starts .entry))) main at (setKind mark) (take len (drop start (now (set .entry)))) ⌝ }
 {
     let kind = set_kind(mark);
     let body = part(set, start, len);
     if is_placed(count, main, kind) {
         if is_body(kind, body) {
-            return pass(set, starts, count, at, kind, body);
+            return pass(set, starts, count, index, at, kind, body);
         }
     }
     Verdict::Stop(ModuleError::Malformed(Input::Set, at))
@@ -133,6 +155,7 @@ pub fn check_set(set: &[u8]) -> Checked
     }
     let mut c = Cursor { at: 0 };
     let mut starts = [0usize; 257];
+    let mut index = [0u16; 512];
     let mut count: usize = 0;
     let mut main = false;
     loop {
@@ -144,12 +167,13 @@ pub fn check_set(set: &[u8]) -> Checked
                 len,
                 next,
             } => {
-                match judge(set, &starts, count, main, at, mark, start, len) {
+                match judge(set, &starts, count, &index, main, at, mark, start, len) {
                     Verdict::Stop(e) => {
                         return refuse(e);
                     }
                     Verdict::Start => {
                         starts[count] = at;
+                        add(set, &starts, &mut index, count);
                         count += 1;
                         main = false;
                     }

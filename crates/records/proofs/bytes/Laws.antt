@@ -11,7 +11,7 @@ use lib.Seq.{drop-cons, take-all, getD-drop}
 use lib.Dec.{ltb, eqb}
 use borrow.Author.Tests.{eq-eqb, ne-eqb, lt-ltb, le-ltb, eqb-true, ltb-true, ltb-false}
 use Rattle.records.specs.Bytes.{sameBytes, beforeBytes, u16At}
-use Rattle.records.proofs.Logic.{clash}
+use Rattle.records.proofs.Logic.{clash, and-true, and-false, and-assoc}
 
 -- ---- parts
 
@@ -60,36 +60,40 @@ same-lengths (x ∷ xs) (y ∷ ys) ne = go (eqb x y) (same-lengths xs ys (λ e. 
     go true ih = ih
     go false ih = refl
 
--- at i the strings have agreed so far, and what is left decides
-pub record SameAt (a b : List ℕ) (i : ℕ) : Type 0 where
+pub equal-same : (equal : Bool) (a b : ℕ) → a ≡ b → equal ≡ (equal && eqb a b)
+equal-same equal a b e = sym (rw (eq-eqb a b e) (and-true equal))
+
+pub equal-not : (equal : Bool) (a b : ℕ) → (a ≡ b → ⊥) → false ≡ (equal && eqb a b)
+equal-not equal a b ne = sym (rw (ne-eqb a b ne) (and-false equal))
+
+pub ruleset equal-laws = (equal-same, equal-not)
+
+-- `equal` says whether the strings agree before i, and with what is left it decides
+pub record SameAt (a b : List ℕ) (equal : Bool) (i : ℕ) : Type 0 where
   pub within : i ≤ length a
   pub long : length a ≡ length b
-  pub left : sameBytes a b ≡ sameBytes (drop i a) (drop i b)
+  pub left : sameBytes a b ≡ (equal && sameBytes (drop i a) (drop i b))
 
-pub same-start : (a b : List ℕ) → length a ≡ length b → SameAt a b 0
+pub same-start : (a b : List ℕ) → length a ≡ length b → SameAt a b true 0
 same-start a b e = record { within = omega arith; long = e; left = refl }
 
-module _ {a b : List ℕ} {i : ℕ} (h : SameAt a b i) where
+module _ {a b : List ℕ} {equal : Bool} {i : ℕ} (h : SameAt a b equal i) where
   pub same-in : i < length a → i < length b
   same-in l = omega (arith, h .long)
 
-  pub same-differ : i < length a → (getD a i 0 ≡ getD b i 0 → ⊥) → false ≡ sameBytes a b
+  pub same-more : (r : Bool) → i < length a → r ≡ (equal && eqb (getD a i 0) (getD b i 0)) → SameAt a b r (i + 1)
   unfolding sameBytes
-  same-differ la ne = sym (h .left ∙ rw (drop-cons a i 0 la, drop-cons b i 0 (same-in la), ne-eqb (getD a i 0) (getD b i 0) ne))
-
-  pub same-more : i < length a → getD a i 0 ≡ getD b i 0 → SameAt a b (i + 1)
-  unfolding sameBytes
-  same-more la e = record {
+  same-more r la e = record {
     within = omega arith;
     long = h .long;
-    left = h .left ∙ rw (add-one, drop-cons a i 0 la, drop-cons b i 0 (same-in la), eq-eqb (getD a i 0) (getD b i 0) e);
+    left = h .left ∙ rw (add-one, drop-cons a i 0 la, drop-cons b i 0 (same-in la), e) (and-assoc equal (eqb (getD a i 0) (getD b i 0)) (sameBytes (drop (suc i) a) (drop (suc i) b)));
   }
 
-  pub same-done : length a ≤ i → true ≡ sameBytes a b
+  pub same-done : length a ≤ i → equal ≡ sameBytes a b
   unfolding sameBytes
-  same-done la = sym (h .left ∙ rw (drop-of-length-le a la, drop-of-length-le b {i = i} (omega (arith, h .long))))
+  same-done la = sym (h .left ∙ rw (drop-of-length-le a la, drop-of-length-le b {i = i} (omega (arith, h .long))) (and-true equal))
 
-pub ruleset same-laws = (same-lengths, same-start, same-in, same-differ, same-more, same-done)
+pub ruleset same-laws = (same-lengths, same-start, same-in, same-more, same-done)
 
 -- strings that compare equal are equal, and the other way
 pub same-eq : (a b : List ℕ) → sameBytes a b ≡ true → a ≡ b

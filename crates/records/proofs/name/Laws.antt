@@ -9,8 +9,9 @@ use native.Mathlib.Nat.{le-antisymm, not-suc-le-zero}
 use native.Mathlib.Numerals.{add-one, sub-one}
 use lib.ListN.{length, getD, take, drop, drop-of-length-le, length-take}
 use lib.Seq.{drop-cons}
-use lib.Dec.{eqb}
+use lib.Dec.{leb, eqb}
 use borrow.Author.Tests.{lt-ltb, le-ltb, le-leb, lt-leb, not-true, not-false}
+use Rattle.records.proofs.Logic.{and-true, and-false, and-assoc}
 use Rattle.records.specs.Name.{printable, nameOf, afterName, isField, isName, isEmpty, isNames, isList, isVersion, namesOf, listOf, memName}
 
 -- ---- the name at the front
@@ -22,33 +23,38 @@ name-told s t r n en et er = cc
 pub name-short : (t r : List ℕ) (n : ℕ) → n < 256 → r ≡ take n t → length r ≤ 255
 name-short t r n l e = rw (e, length-take) (omega arith)
 
--- the bytes before i are printable, and what is left decides
-pub record PrintableAt (s : List ℕ) (i : ℕ) : Type 0 where
-  pub within : i ≤ length s
-  pub left : printable s ≡ printable (drop i s)
+pub byte-low : (good : Bool) (b : ℕ) → b < 0x21 → false ≡ (good && (leb 0x21 b && leb b 0x7E))
+byte-low good b l = sym (rw (lt-leb 0x21 b l) (and-false good))
 
-pub printable-start : (s : List ℕ) → PrintableAt s 0
+pub byte-high : (good : Bool) (b : ℕ) → 0x7E < b → false ≡ (good && (leb 0x21 b && leb b 0x7E))
+byte-high good b l = let ge : 0x21 ≤ b = omega arith in sym (rw (le-leb 0x21 b ge, lt-leb b 0x7E l) (and-false good))
+
+pub byte-good : (good : Bool) (b : ℕ) → 0x21 ≤ b → b ≤ 0x7E → good ≡ (good && (leb 0x21 b && leb b 0x7E))
+byte-good good b ge le = sym (rw (le-leb 0x21 b ge, le-leb b 0x7E le) (and-true good))
+
+pub ruleset byte-laws = (byte-low, byte-high, byte-good)
+
+-- `good` says whether the bytes before i are printable, and with what is left it decides
+pub record PrintableAt (s : List ℕ) (good : Bool) (i : ℕ) : Type 0 where
+  pub within : i ≤ length s
+  pub left : printable s ≡ (good && printable (drop i s))
+
+pub printable-start : (s : List ℕ) → PrintableAt s true 0
 printable-start s = record { within = omega arith; left = refl }
 
-module _ {s : List ℕ} {i : ℕ} (h : PrintableAt s i) where
-  pub printable-low : i < length s → getD s i 0 < 0x21 → false ≡ printable s
+module _ {s : List ℕ} {good : Bool} {i : ℕ} (h : PrintableAt s good i) where
+  pub printable-more : (r : Bool) → i < length s → r ≡ (good && (leb 0x21 (getD s i 0) && leb (getD s i 0) 0x7E)) → PrintableAt s r (i + 1)
   unfolding printable
-  printable-low l lt = sym (h .left ∙ rw (drop-cons s i 0 l, lt-leb 0x21 (getD s i 0) lt))
-
-  pub printable-high : i < length s → 0x21 ≤ getD s i 0 → 0x7E < getD s i 0 → false ≡ printable s
-  unfolding printable
-  printable-high l ge lt = sym (h .left ∙ rw (drop-cons s i 0 l, le-leb 0x21 (getD s i 0) ge, lt-leb (getD s i 0) 0x7E lt))
-
-  pub printable-more : i < length s → 0x21 ≤ getD s i 0 → getD s i 0 ≤ 0x7E → PrintableAt s (i + 1)
-  unfolding printable
-  printable-more l ge le = record {
+  printable-more r l e = record {
     within = omega arith;
-    left = h .left ∙ rw (add-one, drop-cons s i 0 l, le-leb 0x21 (getD s i 0) ge, le-leb (getD s i 0) 0x7E le);
+    left = h .left ∙ rw (add-one, drop-cons s i 0 l, e) (and-assoc good (leb 0x21 (getD s i 0) && leb (getD s i 0) 0x7E) (printable (drop (suc i) s)));
   }
 
-  pub printable-done : length s ≤ i → true ≡ printable s
+  pub printable-done : length s ≤ i → good ≡ printable s
   unfolding printable
-  printable-done l = sym (h .left ∙ rw (drop-of-length-le s l))
+  printable-done l = sym (h .left ∙ rw (drop-of-length-le s l) (and-true good))
+
+pub ruleset printable-laws = (printable-start, printable-more, printable-done)
 
 module _ (s : List ℕ) (n : ℕ) (e : n ≡ getD s 0 0) where
   pub field-short : length s < 1 + n → false ≡ isField s

@@ -20,6 +20,7 @@ use Rattle.records.specs.declared.set.SetAnswer.the-variants.{Modules}
 use Rattle.records.proofs.Logic.{clash}
 use Rattle.records.proofs.bytes.Laws.{same-eq, same-refl}
 use Rattle.records.proofs.record.Laws.{joined, records-cons, records-none, records-ind, records-end, splits}
+use Rattle.records.proofs.index.Laws.{map-last}
 use Rattle.records.proofs.set.Table.{startsFrom, startsOf, areNew, isNew, Taken, taken, name-here}
 
 -- ---- the records up to the next MO are the front of the string
@@ -226,10 +227,6 @@ mem-last n (m ∷ a) = go (sameBytes m n) (mem-last n a)
     go : (t : Bool) → memName n (a ++ (n ∷ [])) ≡ true → (t || memName n (a ++ (n ∷ []))) ≡ true
     go true ih = refl
     go false ih = ih
-
-map-last : (s ss : List ℕ) (a : ℕ) → map (nameAt s) (ss ++ (a ∷ [])) ≡ map (nameAt s) ss ++ (nameAt s a ∷ [])
-map-last s [] a = refl
-map-last s (b ∷ ss) a = ap (λ (l : List (List ℕ)). nameAt s b ∷ l) (map-last s ss a)
 
 -- the names from here on are none of those in front, stand but once, and none is ALL-UNNAMED
 record Apart (s ss l : List ℕ) : Type 0 where

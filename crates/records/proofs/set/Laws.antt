@@ -6,7 +6,7 @@ use mathlib.Core.Bool.{Bool, true, false, _&&_, _||_}
 use native.Mathlib.Omega.{arith}
 use native.Mathlib.Numerals.{add-one}
 use lib.ListN.{length, getD, take, drop, set, replicate, length-set, List·getD-eq-default}
-use lib.Seq.{length-take-le, take-suc-set, set-at, append-snoc}
+use lib.Seq.{length-take-le, take-suc-set, take-set-le, set-at, append-snoc}
 use lib.Dec.{ltb, leb}
 use borrow.Author.Tests.{eq-eqb, ne-eqb, lt-ltb, le-ltb, le-leb, lt-leb, leb-false}
 use types.Run.{OneOf, miss}
@@ -16,6 +16,7 @@ use Rattle.records.specs.Name.{allUnnamed, nameOf, memName}
 use Rattle.records.specs.Record.{records, stepAt, setKind, isBody}
 use Rattle.records.specs.Descriptor.{moduleName}
 use Rattle.records.specs.Finder.{findName}
+use Rattle.records.specs.Index.{Indexed}
 use Rattle.records.specs.Set.{nameAt, isPlaced, admitAt, passAt, judgeAt, pickVerdict, tableOf, refused, accepted, goOn, checkFrom, checkSet, blockAt}
 use Rattle.records.specs.declared.record.Cursor.{Cursor}
 use Rattle.records.specs.declared.record.Step.{Step}
@@ -35,6 +36,7 @@ use Rattle.records.proofs.Logic.{clash}
 use Rattle.records.proofs.record.Kind.{the-type}
 use Rattle.records.proofs.record.Laws.{Stepped, stepped, stepped-bad, stepped-end, stepped-in, records-next, front-mark, front-body, front-length, records-none, records-end}
 use Rattle.records.proofs.finder.Laws.{found-in, found-not}
+use Rattle.records.proofs.index.Laws.{indexed-none}
 
 -- ---- one record
 
@@ -175,26 +177,28 @@ refused-is e = refl
 
 -- ---- the whole set
 
--- the records before `at` pass; their modules start at the first `count` entries of the table, whose other entries are 0; and
--- those from `at` on decide
-pub record CheckAt (s : List ℕ) (at : ℕ) (t : List ℕ) (count : ℕ) (main : Bool) : Type 0 where
+-- the records before `at` pass; their modules start at the first `count` entries of the table, whose other entries are 0;
+-- the index has their names; and those from `at` on decide
+pub record CheckAt (s : List ℕ) (at : ℕ) (t index : List ℕ) (count : ℕ) (main : Bool) : Type 0 where
   pub within : at ≤ length s
   pub few : count ≤ 256
   pub zeros : t ≡ take count t ++ replicate (257 - count) 0
   pub long : length t ≡ 257
+  pub by : Indexed (map (nameAt s) (take count t)) index
   pub left : checkSet s ≡ checkFrom s (record { starts = take count t; main = main }) at (records (drop at s))
 
 pub check-long : (s : List ℕ) (r : Checked) → 65535 < length s → r ≡ refused (TooLarge 0) → r ≡ checkSet s
 unfolding checkSet
 check-long s r l e = e ∙ sym (rw (lt-ltb 65535 (length s) l))
 
-pub check-start : (s : List ℕ) → length s ≤ 65535 → CheckAt s 0 (replicate 257 0) 0 false
+pub check-start : (s : List ℕ) → length s ≤ 65535 → CheckAt s 0 (replicate 257 0) (replicate 512 0) 0 false
 unfolding checkSet
 check-start s l = record {
   within = omega arith;
   few = omega arith;
   zeros = refl;
   long = refl;
+  by = indexed-none;
   left = rw (le-ltb 65535 (length s) l);
 }
 
@@ -243,7 +247,14 @@ table-more t count at l e z =
     let w : t ≡ take count t ++ (0 ∷ replicate (256 - count) 0) = z ∙ rw n in
     ap (λ (x : List ℕ). set x count at) w ∙ set-at (take count t) 0 (replicate (256 - count) 0) at count p
 
-module _ (s : List ℕ) (at : ℕ) (t : List ℕ) (count : ℕ) (main : Bool) (h : CheckAt s at t count main) (step : Step) (es : step ≡ stepAt s at) where
+module _ (s : List ℕ) (at : ℕ) (t index : List ℕ) (count : ℕ) (main : Bool) (h : CheckAt s at t index count main) where
+  pub check-add-in : (x : ℕ) → count < length (set t count x)
+  check-add-in x = rw (length-set t count x, h .long) (omega (arith, h .few))
+
+  pub check-add-by : (x : ℕ) → Indexed (map (nameAt s) (take count (set t count x))) index
+  check-add-by x = rw (take-set-le count t count x (omega arith)) (h .by)
+
+module _ (s : List ℕ) (at : ℕ) (t index : List ℕ) (count : ℕ) (main : Bool) (h : CheckAt s at t index count main) (step : Step) (es : step ≡ stepAt s at) where
   pub check-room : count ≤ length t
   check-room = omega (arith, h .few, h .long)
 
@@ -268,26 +279,26 @@ module _ (s : List ℕ) (at : ℕ) (t : List ℕ) (count : ℕ) (main : Bool) (h
     unfolding goOn
     check-stop e r f g = g ∙ sym (turn ∙ rw f)
 
-    pub check-main : v ≡ Main → CheckAt s (next .at) t count true
+    pub check-main : v ≡ Main → CheckAt s (next .at) t index count true
     unfolding goOn
-    check-main f = record { within = inside; few = h .few; zeros = h .zeros; long = h .long; left = turn ∙ rw f }
+    check-main f = record { within = inside; few = h .few; zeros = h .zeros; long = h .long; by = h .by; left = turn ∙ rw f }
 
-    pub check-pass : v ≡ Pass → CheckAt s (next .at) t count main
+    pub check-pass : v ≡ Pass → CheckAt s (next .at) t index count main
     unfolding goOn
-    check-pass f = record { within = inside; few = h .few; zeros = h .zeros; long = h .long; left = turn ∙ rw f }
+    check-pass f = record { within = inside; few = h .few; zeros = h .zeros; long = h .long; by = h .by; left = turn ∙ rw f }
 
-    few-more : v ≡ Start → count < 256
-    few-more f =
+    pub check-few : v ≡ Start → count < 256
+    check-few f =
         let q : length (take count t) < 256 = start-room s (take count t) main at (setKind mark) (take len (drop start s)) (sym ev ∙ f) in
         omega (arith, q, length-take-le count t (omega (arith, h .few, h .long)))
 
     pub check-start-fits : v ≡ Start → count + 1 ≤ 256
-    check-start-fits f = omega (arith, few-more f)
+    check-start-fits f = omega (arith, check-few f)
 
-    pub check-module : v ≡ Start → CheckAt s (next .at) (set t count at) (count + 1) false
+    pub check-module : (index′ : List ℕ) → v ≡ Start → Indexed (map (nameAt s) (take (count + 1) (set t count at))) index′ → CheckAt s (next .at) (set t count at) index′ (count + 1) false
     unfolding goOn
-    check-module f =
-        let l : count < 256 = few-more f in
+    check-module index′ f x =
+        let l : count < 256 = check-few f in
         let w : set t count at ≡ take count t ++ (at ∷ replicate (256 - count) 0) = table-more t count at (omega arith) (h .long) (h .zeros) in
         let q : take (count + 1) (set t count at) ≡ take count t ++ (at ∷ []) = rw add-one (take-suc-set t count at (omega (arith, h .long))) in
         let m : 257 - (count + 1) ≡ 256 - count = omega arith in
@@ -296,6 +307,7 @@ module _ (s : List ℕ) (at : ℕ) (t : List ℕ) (count : ℕ) (main : Bool) (h
           few = omega arith;
           zeros = rw (q, m) (w ∙ sym (append-snoc (take count t) at (replicate (256 - count) 0)));
           long = length-set t count at ∙ h .long;
+          by = x;
           left = rw q (turn ∙ rw f);
         }
 

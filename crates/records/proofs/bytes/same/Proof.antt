@@ -6,10 +6,10 @@ use Rattle.records.proofs.bytes.same.Statement.{statement}
 use Rattle.records.proofs.bytes.same.Tie as tie
 
 abbrev Inv-loop : tie.InvT-loop
-Inv-loop a b i₀ i = SameAt a b i
+Inv-loop a b equal₀ i₀ equal i = SameAt a b equal i
 
 abbrev μ-loop : tie.MeasureT-loop
-μ-loop a b i₀ i = length a - i
+μ-loop a b equal₀ i₀ equal i = length a - i
 
 pub same-spec : {M : Type 1} → statement M
 same-spec =
@@ -21,7 +21,7 @@ same-spec =
     (λ c. search (same-laws, needs))
     (λ c. search (same-laws, needs))
     (λ c. search (same-laws, needs))
-    (λ c. search (same-laws, needs))
+    (λ c κs. search (same-laws, needs))
     (λ c. search (same-laws, needs))
     (λ c. search (same-laws, needs))
     (λ c. search (same-laws, needs))

@@ -1,15 +1,15 @@
-use borrow.Author.Needs.{needs}
 use Prim.Native.Nat.{_-_}
 use lib.ListN.{length}
-use Rattle.records.proofs.name.Laws.{PrintableAt, printable-start, printable-low, printable-high, printable-more, printable-done}
+use borrow.Author.Needs.{needs}
+use Rattle.records.proofs.name.Laws.{PrintableAt, printable-laws}
 use Rattle.records.proofs.name.printable.Statement.{statement}
 use Rattle.records.proofs.name.printable.Tie as tie
 
 abbrev Inv-loop : tie.InvT-loop
-Inv-loop s i₀ i = PrintableAt s i
+Inv-loop s good₀ i₀ good i = PrintableAt s good i
 
 abbrev μ-loop : tie.MeasureT-loop
-μ-loop s i₀ i = length s - i
+μ-loop s good₀ i₀ good i = length s - i
 
 pub printable-spec : {M : Type 1} → statement M
 printable-spec =
@@ -17,12 +17,10 @@ printable-spec =
     (tie.spec
     Inv-loop
     μ-loop
-    (λ c. search printable-start)
-    (λ c. search needs)
-    (λ c. search printable-low)
-    (λ c. search needs)
-    (λ c. search printable-high)
-    (λ c. search needs)
-    (λ c. search needs)
-    (λ c. search printable-more)
-    (λ c. search printable-done))
+    (λ c. search (printable-laws, needs))
+    (λ c. search (printable-laws, needs))
+    (λ c κs. search (printable-laws, needs))
+    (λ c. search (printable-laws, needs))
+    (λ c. search (printable-laws, needs))
+    (λ c. search (printable-laws, needs))
+    (λ c. search (printable-laws, needs)))

@@ -1,0 +1,17 @@
+use Rattle.records.proofs.index.Laws.{hash-laws}
+use borrow.Author.Needs.{needs}
+use Rattle.records.proofs.index.hash.Statement.{statement}
+use Rattle.records.proofs.index.hash.Tie as tie
+
+pub hash-spec : {M : Type 1} → statement M
+hash-spec =
+    tie.close
+    (tie.spec
+    (λ c κs. search (hash-laws, needs))
+    (λ c κs. search (hash-laws, needs))
+    (λ c. search (hash-laws, needs))
+    (λ c. search (hash-laws, needs))
+    (λ c. search (hash-laws, needs))
+    (λ c. search (hash-laws, needs))
+    (λ c. search (hash-laws, needs))
+    (λ c. search (hash-laws, needs)))
