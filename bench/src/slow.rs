@@ -44,22 +44,26 @@ fn modules(names: impl Iterator<Item = String>) -> Vec<u8> {
     names.fold(module("java.base"), |set, n| [set, module(&n)].concat())
 }
 
-/// The hash of resolution/src/filter.rt; its multipliers are 17,117 and 40,503.
-fn hash(n: &str, m: u64) -> u64 {
-    n.bytes().fold(0, |h, b| (h * m + u64::from(b)) % 65_521)
+/// What `records::index::hash` makes of a name of at most 255 bytes.
+fn hash(n: &str) -> u64 {
+    let sums = |(a, b, c): (u64, u64, u64), x: u8| {
+        let a = a + u64::from(x);
+        (a, b + a, c + b + a)
+    };
+    let (a, b, c) = n.bytes().fold((0, 0, 0), sums);
+    (a + b * 509 + c * 65_521) * 40_503
 }
 
-/// A name that sets the bits of "~" in the filter, which are one, so that "~" passes it in vain.
-fn marker() -> String {
-    let collides = |n: &String| [17_117, 40_503].iter().any(|m| hash(n, *m) == hash("~", *m));
-    (0..94 * 94 * 94).map(|i| name(3, i)).find(collides).expect("a name of three bytes collides")
-}
-
-/// A name of 255 bytes whose first bit in the filter is that of `other`, and whose second is not.
-fn half_marked(other: &str) -> String {
-    let names = (0..94 * 94 * 94).map(|i| "n".repeat(252) + &name(3, i));
-    let mut halves = names.filter(|n| hash(n, 17_117) == hash(other, 17_117) && hash(n, 40_503) != hash(other, 40_503));
-    halves.next().expect("a name of 255 bytes collides")
+/// Names of twelve bytes with one hash: of four bytes, +1, -3, +3 and -1 change none of its three sums.
+fn alike(i: usize) -> String {
+    let four = |d: usize| {
+        let t = d as i32 - 15;
+        [80 + t, 80 - 3 * t, 80 + 3 * t, 80 - t].map(|x| x as u8)
+    };
+    assert!(i < 31 * 31 * 31, "{i} has no such name");
+    let n = String::from_utf8([four(i / 961), four(i / 31 % 31), four(i % 31)].concat()).unwrap();
+    assert_eq!(hash(&n), hash("PPPPPPPPPPPP"));
+    n
 }
 
 struct Table {
@@ -154,6 +158,11 @@ fn chain() -> Configuration {
     Configuration::from_words(words)
 }
 
+/// PK of the names with one hash from number `first` on.
+fn alike_package(first: usize) -> impl Fn(usize) -> Vec<u8> {
+    move |i| package(&alike(first + i))
+}
+
 fn resolutions(t: &mut Table) {
     let base = || module("java.base");
     let long = |i: usize| "n".repeat(238) + &name(2, i);
@@ -174,6 +183,20 @@ fn resolutions(t: &mut Table) {
         limits(fill(Vec::new(), LIMIT / 2, |_| root("~")), "!", LIMIT),
     );
     t.resolve("10,900 absent RT, LM behind them", base(), [fill(Vec::new(), LIMIT - 6, |_| root("~")), limit(&[])].concat());
+    t.resolve("10,900 absent RT, no LM", base(), fill(Vec::new(), LIMIT, |_| root("~")));
+    t.resolve("6,500 RQ of absent names, no LM", fill(base(), LIMIT, |i| requires(&name(2, i), 0)), Vec::new());
+    let downward = |count: usize| (0..count).rev().map(|i| name(3, 400_000 + i)).collect::<Vec<_>>();
+    let all_of = |names: &[String]| limit(&names.iter().map(String::as_str).collect::<Vec<_>>());
+    t.resolve(
+        "6,500 RQ of absent names, all different, LM of 16,000 others against the order",
+        fill(base(), LIMIT, |i| requires(&name(2, i), 0)),
+        all_of(&downward(16_380)),
+    );
+    t.resolve(
+        "4,000 absent RT, all different, LM of 8,000 others against the order",
+        base(),
+        fill(all_of(&downward(8_100)), LIMIT, |i| root(&name(3, i))),
+    );
     t.resolve(
         "256 modules, LM of 21,000 other names as long",
         modules((1..256).map(|i| name(2, i))),
@@ -206,6 +229,22 @@ fn resolutions(t: &mut Table) {
         {
             let set = modules((1..128).map(long));
             fill([set, module("a")].concat(), LIMIT, |_| requires(&long(127), TRANSITIVE))
+        },
+        root("a"),
+    );
+    t.resolve(
+        "256 modules with one hash, 2,900 RQ of the first",
+        {
+            let set = modules((1..255).map(alike));
+            fill([set, module("a")].concat(), LIMIT, |_| requires(&alike(1), TRANSITIVE))
+        },
+        root("a"),
+    );
+    t.resolve(
+        "256 modules with one hash, 2,900 static RQ of absent names with it",
+        {
+            let set = modules((1..255).map(alike));
+            fill([set, module("a")].concat(), LIMIT, |i| requires(&alike(1_000 + i), STATIC))
         },
         root("a"),
     );
@@ -277,10 +316,29 @@ fn resolutions(t: &mut Table) {
         [root("a"), root("b")].concat(),
     );
     t.resolve(
-        "5,400 PK that pass the filter in vain, another module with 5,400 PK",
+        "two modules with 1,900 PK each, all with one hash",
         {
-            let set = fill([base(), module("a"), package(&marker())].concat(), LIMIT / 2, |_| package("!"));
-            fill([set, module("b")].concat(), LIMIT, |_| package("~"))
+            let set = fill([base(), module("a")].concat(), LIMIT / 2, alike_package(0));
+            fill([set, module("b")].concat(), LIMIT, alike_package(10_000))
+        },
+        [root("a"), root("b")].concat(),
+    );
+    t.resolve(
+        "250 modules with 14 PK each, all with one hash",
+        {
+            (0..250).fold(base(), |set, i| {
+                let set = [set, module(&name(2, i))].concat();
+                fill(set, (i + 1) * LIMIT / 250, alike_package(i * 20))
+            })
+        },
+        (0..250).flat_map(|i| root(&name(2, i))).collect(),
+    );
+    t.resolve(
+        "two modules with 5,400 PK, in each one that stands twice",
+        {
+            let twice = |n: &str| [package(n), package(n)].concat();
+            let set = fill([base(), module("a"), twice("!")].concat(), LIMIT / 2, |i| package(&name(3, i)));
+            fill([set, module("b"), twice("~")].concat(), LIMIT, |i| package(&name(3, 100_000 + i)))
         },
         [root("a"), root("b")].concat(),
     );
@@ -297,10 +355,18 @@ fn resolutions(t: &mut Table) {
         Vec::new(),
     );
     t.resolve(
-        "5,400 US of one module, 4,000 PV that pass the filter in vain",
+        "10,000 US, 500 PV of services that nobody uses",
         {
-            let set = fill([base(), uses(&marker())].concat(), LIMIT / 2, |_| uses("!"));
-            fill([set, module("a")].concat(), LIMIT, |_| provides("~", &[]))
+            let set = fill(base(), LIMIT - 4_500, |i| uses(&name(2, i % 8_000)));
+            fill([set, module("a")].concat(), LIMIT, |i| provides(&name(3, i), &[]))
+        },
+        Vec::new(),
+    );
+    t.resolve(
+        "8,300 US against the order, 1,000 PV of services that nobody uses",
+        {
+            let set = fill(base(), LIMIT - 9_000, |i| uses(&name(2, 8_800 - i % 8_800)));
+            fill([set, module("a")].concat(), LIMIT, |i| provides(&name(3, i), &[]))
         },
         Vec::new(),
     );
@@ -321,21 +387,30 @@ fn resolutions(t: &mut Table) {
         Vec::new(),
     );
     t.resolve(
-        "254 rounds, a module with 210 PV of a service of 255 bytes with one bit in the filter",
+        "254 rounds, a module with 210 PV of a service of 255 bytes",
         {
-            let long = half_marked("A");
-            fill([rounds([base(), uses("A")].concat(), 254), module("a")].concat(), LIMIT, |_| provides(&long, &[]))
+            let long = "n".repeat(255);
+            fill([rounds(base(), 254), module("a")].concat(), LIMIT, |_| provides(&long, &[]))
         },
         Vec::new(),
     );
-    t.resolve(
-        "254 rounds, 4,800 US, 3,600 PV that pass the filter in vain",
-        {
-            let set = rounds(fill([base(), uses(&marker())].concat(), (LIMIT - 254 * 30) / 2, |_| uses("!")), 254);
-            fill([set, module("a")].concat(), LIMIT, |_| provides("~", &[]))
-        },
-        Vec::new(),
-    );
+    // In each round a module that uses `count` services, and one with services in between that nobody uses.
+    let broad = |count: usize| {
+        let set = (0..253).fold([base(), uses("s!!")].concat(), |set, i| {
+            let others = (0..count).flat_map(|j| uses(&format!("m{}", name(2, j * 300 + i))));
+            let own = [
+                module(&name(3, 500_000 + i)),
+                provides(&format!("s{}", name(2, i)), &[]),
+                uses(&format!("s{}", name(2, i + 1))),
+                others.collect(),
+            ];
+            [set, own.concat()].concat()
+        });
+        fill([set, module("a")].concat(), LIMIT, |i| provides(&format!("m{}~", name(2, i * 2 % 8_800)), &[]))
+    };
+    t.resolve("254 rounds with 2 new US each, a module with 4,400 PV", broad(1), Vec::new());
+    t.resolve("254 rounds with 5 new US each, a module with 3,700 PV", broad(4), Vec::new());
+    t.resolve("254 rounds with 13 new US each, a module with 2,100 PV", broad(12), Vec::new());
     t.resolve(
         "a round with 7,000 RQ of an absent name that is the last of 10,900 RT",
         {
@@ -352,6 +427,22 @@ fn resolutions(t: &mut Table) {
         {
             let set = fill([base(), uses("s")].concat(), LIMIT / 2, |_| requires("!", 0));
             fill([set, requires("~", 0), module("a"), provides("s", &[])].concat(), LIMIT, |_| requires("~", 0))
+        },
+        fill(limit(&["a"]), LIMIT, |_| root("!")),
+    );
+    t.resolve(
+        "a round with 5,900 RQ of absent names, all different and all among 9,000 RT against the order",
+        {
+            let set = [base(), uses("s"), module("a"), provides("s", &[])].concat();
+            fill(set, LIMIT, |i| requires(&name(2, i + 1), 0))
+        },
+        fill(limit(&["a"]), LIMIT, |i| root(&name(2, 8_800 - i % 8_800))),
+    );
+    t.resolve(
+        "a round with 2,900 RQ of absent names, all different, that another module requires against the order",
+        {
+            let set = fill([base(), uses("s")].concat(), LIMIT / 2, |i| requires(&name(2, 3_500 - i), 0));
+            fill([set, module("a"), provides("s", &[])].concat(), LIMIT, |i| requires(&name(2, 600 + i % 2_900), 0))
         },
         fill(limit(&["a"]), LIMIT, |_| root("!")),
     );
