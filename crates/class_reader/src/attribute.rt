@@ -1,9 +1,10 @@
 // The attributes: where each stands, which are read, and the first one at fault.
 ghost use mathlib.Core.Path.{_≡_};
-ghost use Prim.Native.Nat.{_≤_, _<_};
+ghost use Prim.Native.Nat.{_+_, _≤_};
 ghost use lib.ListN.{length};
-ghost use Rattle.class_reader.specs.Attribute.{attributeNamed, attributeEnd, contentsGood, seenAt, see, attributeGood, nothingSeen};
-ghost use Rattle.class_reader.specs.Walk.{walkEnd, walkFrom};
+ghost use Rattle.class_reader.specs.Attribute.{attributeNamed, attributeEnd, seenAt, see, nothingSeen};
+ghost use Rattle.class_reader.specs.Measure.{Small};
+ghost use Rattle.class_reader.specs.Walk.{measureContents, keep, measuredIn, walkNamed, walkOne, walkEnd, walkFrom};
 use crate::entry::Entry;
 use crate::measure::Measured;
 use crate::measure::measure;
@@ -29,9 +30,9 @@ pub struct Seen {
     pub main: usize,
 }
 
-// What was met, or the offset of the first fault.
+// What was met, and what the contents of its Module attribute measure; or the offset of the first fault.
 pub enum Walked {
-    Found(Seen),
+    Found(Seen, Measured),
     Fault(usize),
 }
 
@@ -59,13 +60,13 @@ fn attribute_end(file: &[u8], at: usize) -> usize
     at + 6 + (be16(file, at + 2) * 65536 + be16(file, at + 4))
 }
 
-// Whether the contents from p up to `end` are good.
-fn contents_good(file: &[u8], pool: &[u16], a: Attribute, p: usize, end: usize) -> bool
+// What the contents from p up to `end` measure.
+fn measure_contents(file: &[u8], pool: &[u16], a: Attribute, p: usize, end: usize) -> Measured
     requires { ⌜ length (now file) ≤ 65535 ⌝ }
-    requires { ⌜ 0 < p ⌝ }
     requires { ⌜ p ≤ length (now file) ⌝ }
-    requires { ⌜ 0 < end ⌝ }
-    ensures { λ r. ⌜ r ≡ contentsGood a (now (file .entry)) (now (pool .entry)) p end ⌝ }
+    requires { ⌜ end ≤ length (now file) ⌝ }
+    ensures { λ r. ⌜ r ≡ measureContents a (now (file .entry)) (now (pool .entry)) p end ⌝ }
+    ensures { λ r. ⌜ Small (now (file .entry)) r ⌝ }
 {
     let from = Measured {
         next: p,
@@ -73,10 +74,26 @@ fn contents_good(file: &[u8], pool: &[u16], a: Attribute, p: usize, end: usize) 
         large: false,
     };
     match a {
-        Attribute::Module => measure_module(file, pool, p).next == end,
-        Attribute::ModulePackages => measure_table(file, pool, Entry::Package, from).next == end,
-        Attribute::ModuleMainClass => measure(file, pool, Entry::MainClass, 1, from).next == end,
-        Attribute::Other => true,
+        Attribute::Module => measure_module(file, pool, p),
+        Attribute::ModulePackages => measure_table(file, pool, Entry::Package, from),
+        Attribute::ModuleMainClass => measure(file, pool, Entry::MainClass, 1, from),
+        Attribute::Other => Measured {
+            next: end,
+            size: 0,
+            large: false,
+        },
+    }
+}
+
+// What the contents of Module measure: m, or k if this one is Module.
+fn keep(a: Attribute, m: Measured, k: Measured) -> Measured
+    ensures { λ r. ⌜ r ≡ keep a m k ⌝ }
+{
+    match a {
+        Attribute::Module => k,
+        Attribute::ModulePackages => m,
+        Attribute::ModuleMainClass => m,
+        Attribute::Other => m,
     }
 }
 
@@ -118,26 +135,55 @@ impl Seen {
     }
 }
 
-// Whether the attribute at `at`, which is whole, is good.
-fn attribute_good(file: &[u8], pool: &[u16], seen: Seen, at: usize) -> bool
+// The attribute from `at` up to `end`, which is a; m is what the contents of Module measured before.
+fn walk_named(
+    file: &[u8],
+    pool: &[u16],
+    seen: Seen,
+    m: Measured,
+    a: Attribute,
+    at: usize,
+    end: usize,
+) -> Walked
     requires { ⌜ length (now file) ≤ 65535 ⌝ }
-    requires { ⌜ attributeEnd (now file) at ≤ length (now file) ⌝ }
-    ensures { λ r. ⌜ r ≡ attributeGood (now (file .entry)) (now (pool .entry)) seen at ⌝ }
+    requires { ⌜ at + 6 ≤ end ⌝ }
+    requires { ⌜ end ≤ length (now file) ⌝ }
+    requires { ⌜ Small (now file) m ⌝ }
+    ensures { λ r. ⌜ r ≡ walkNamed a (now (file .entry)) (now (pool .entry)) seen m at end ⌝ }
+    ensures { λ r. ⌜ Small (now (file .entry)) (measuredIn r) ⌝ }
 {
+    if seen.at(a) != 0 {
+        return Walked::Fault(at);
+    }
+    let k = measure_contents(file, pool, a, at + 6, end);
+    if k.next != end {
+        return Walked::Fault(at);
+    }
+    Walked::Found(seen.see(a, at), keep(a, m, k))
+}
+
+// The attribute from `at` up to `end`.
+fn walk_one(file: &[u8], pool: &[u16], seen: Seen, m: Measured, at: usize, end: usize) -> Walked
+    requires { ⌜ length (now file) ≤ 65535 ⌝ }
+    requires { ⌜ end ≡ attributeEnd (now file) at ⌝ }
+    requires { ⌜ Small (now file) m ⌝ }
+    ensures { λ r. ⌜ r ≡ walkOne (now (file .entry)) (now (pool .entry)) seen m at ⌝ }
+    ensures { λ r. ⌜ Small (now (file .entry)) (measuredIn r) ⌝ }
+{
+    if file.len() < end {
+        return Walked::Fault(at);
+    }
     let i = be16(file, at);
     if !is_tag(file, pool, 1, i) {
-        return false;
+        return Walked::Fault(at);
     }
     let a = attribute_named(text(file, pool, i));
-    if seen.at(a) != 0 {
-        return false;
-    }
-    contents_good(file, pool, a, at + 6, attribute_end(file, at))
+    walk_named(file, pool, seen, m, a, at, end)
 }
 
 // What stands behind the last attribute.
-fn walk_end(file: &[u8], seen: Seen, at: usize) -> Walked
-    ensures { λ r. ⌜ r ≡ walkEnd (now (file .entry)) seen at ⌝ }
+fn walk_end(file: &[u8], seen: Seen, m: Measured, at: usize) -> Walked
+    ensures { λ r. ⌜ r ≡ walkEnd (now (file .entry)) seen m at ⌝ }
 {
     if at != file.len() {
         return Walked::Fault(at);
@@ -145,7 +191,7 @@ fn walk_end(file: &[u8], seen: Seen, at: usize) -> Walked
     if seen.descriptor == 0 {
         return Walked::Fault(file.len());
     }
-    Walked::Found(seen)
+    Walked::Found(seen, m)
 }
 
 // n attributes from `at` on.
@@ -153,25 +199,33 @@ pub fn walk(file: &[u8], pool: &[u16], n: usize, at: usize) -> Walked
     requires { ⌜ length (now file) ≤ 65535 ⌝ }
     requires { ⌜ at ≤ length (now file) ⌝ }
     ensures { λ r. ⌜ r ≡ walkFrom (now (file .entry)) (now (pool .entry)) n nothingSeen at ⌝ }
+    ensures { λ r. ⌜ Small (now (file .entry)) (measuredIn r) ⌝ }
 {
     let mut seen = Seen {
         descriptor: 0,
         packages: 0,
         main: 0,
     };
+    let mut m = Measured {
+        next: 0,
+        size: 0,
+        large: false,
+    };
     let mut b = at;
     let mut i: usize = 0;
     while i < n {
         let end = attribute_end(file, b);
-        if file.len() < end {
-            return Walked::Fault(b);
+        match walk_one(file, pool, seen, m, b, end) {
+            Walked::Fault(o) => {
+                return Walked::Fault(o);
+            }
+            Walked::Found(s, k) => {
+                seen = s;
+                m = k;
+            }
         }
-        if !attribute_good(file, pool, seen, b) {
-            return Walked::Fault(b);
-        }
-        seen = seen.see(attribute_named(text(file, pool, be16(file, b))), b);
         b = end;
         i += 1;
     }
-    walk_end(file, seen, b)
+    walk_end(file, seen, m, b)
 }

@@ -8,6 +8,7 @@ ghost use Rattle.records.specs.Output.{Put};
 ghost use Rattle.class_reader.specs.Attribute.{mainItems, descriptorItems};
 ghost use Rattle.class_reader.specs.Entry.{bytesOf};
 ghost use Rattle.class_reader.specs.ClassFile.{headGood, isModuleInfo, fieldsGood, ClassRead};
+ghost use Rattle.class_reader.specs.Measure.{measureModule, Small};
 ghost use Rattle.class_reader.specs.Output.{Room};
 ghost use Rattle.class_reader.specs.Pool.{poolCount, poolEnd, poolOf};
 ghost use Rattle.class_reader.specs.Reader.{packageCount, Sized, Ordered, ItemsFitted, ItemsRead, BehindRead, PoolRead};
@@ -16,8 +17,8 @@ use crate::attribute::Seen;
 use crate::attribute::Walked;
 use crate::attribute::walk;
 use crate::entry::Entry;
+use crate::measure::Measured;
 use crate::measure::entry_size;
-use crate::measure::measure_module;
 use crate::output::put_entry;
 use crate::output::put_module;
 use crate::packages::order_names;
@@ -215,13 +216,14 @@ fn write_many(file: &[u8], pool: &[u16], seen: Seen, size: usize, out: &mut [u8]
     write_ordered(file, pool, seen, size, &mut table, out)
 }
 
-// Writes the records of the descriptor, if no body is too long and the output has room.
-fn write_descriptor(file: &[u8], pool: &[u16], seen: Seen, out: &mut [u8]) -> Written
+// Writes the records of the descriptor, if no body is too long and the output has room; m is what its Module attribute measures.
+fn write_descriptor(file: &[u8], pool: &[u16], seen: Seen, m: Measured, out: &mut [u8]) -> Written
     requires { ⌜ length (now file) ≤ 65535 ⌝ }
     requires { ⌜ Readable (now file) (now pool) seen ⌝ }
+    requires { ⌜ m ≡ measureModule (now file) (now pool) (seen .descriptor + 6) ⌝ }
+    requires { ⌜ Small (now file) m ⌝ }
     ensures { λ r. ⌜ ItemsRead (descriptorItems (now (file .entry)) (now (pool .entry)) seen) (now (out .entry)) (now (out .exit)) r ⌝ }
 {
-    let m = measure_module(file, pool, seen.descriptor + 6);
     if m.large {
         return Written::Refused(ModuleError::TooLarge(0));
     }
@@ -242,7 +244,7 @@ fn read_attributes(file: &[u8], pool: &[u16], at: usize, out: &mut [u8]) -> Writ
     }
     match walk(file, pool, be16(file, at + 12), at + 14) {
         Walked::Fault(o) => Written::Refused(ModuleError::DescriptorParseError(o)),
-        Walked::Found(seen) => write_descriptor(file, pool, seen, out),
+        Walked::Found(seen, m) => write_descriptor(file, pool, seen, m, out),
     }
 }
 

@@ -1,19 +1,18 @@
 // What is written: the records of the entries, front to back.
 ghost use mathlib.Core.Path.{_≡_};
-ghost use mathlib.Core.List.{[], _∷_, _++_};
+ghost use mathlib.Core.List.{[], _∷_};
 ghost use mathlib.Core.Bool.{true};
 ghost use Prim.Native.Nat.{_+_, _≤_};
 ghost use lib.ListN.{length};
 ghost use Rattle.records.specs.Bytes.{u16At};
-ghost use Rattle.records.specs.Output.{Put, twoBytes, nameBytes, recordBytes};
+ghost use Rattle.records.specs.Output.{Put, nameBytes, recordBytes};
 ghost use Rattle.class_reader.specs.Attribute.{moduleItems};
 ghost use Rattle.class_reader.specs.Entry.{highFlags, namesAt, namesBytes, listBytes, restGood, prefixOf, suffixOf, kindOf, isEntry, entryBody, entryItem, bytesOf, entriesGood, entriesEnd, entriesItems, tableGood, tableEnd, tableItems, tablesGood, tablesEnd, tablesItems, moduleTables};
 ghost use Rattle.class_reader.specs.Pool.{nameAt};
-ghost use Rattle.class_reader.specs.Output.{NamesRoom, Room, PutItems};
+ghost use Rattle.class_reader.specs.Output.{NamesRoom, Room, Marked, PutItems};
 ghost use Rattle.class_reader.specs.declared.entry.Entry.the-variants.{Module};
 use crate::entry::Entry;
 use crate::entry::entry_end;
-use crate::measure::entry_size;
 use crate::measure::table_entry;
 use crate::pool::name;
 use crate::pool::version;
@@ -124,18 +123,21 @@ fn put_prefix(out: &mut [u8], at: usize, file: &[u8], e: Entry, p: usize) -> usi
     }
 }
 
-// Writes a mark and the length of a body.
-fn put_mark(out: &mut [u8], at: usize, mark: usize, size: usize) -> usize
+// Writes a mark and the length of the body behind it, which ends at `end`, and returns `end`.
+fn put_mark(out: &mut [u8], at: usize, mark: usize, end: usize) -> usize
     requires { ⌜ at + 4 ≤ length (now out) ⌝ }
-    ensures { λ r. ⌜ Put (now (out .entry)) at (twoBytes mark ++ twoBytes size) (now (out .exit)) r ⌝ }
+    requires { ⌜ at + 4 ≤ end ⌝ }
+    ensures { λ r. ⌜ Marked (now (out .entry)) at mark end (now (out .exit)) r ⌝ }
 {
+    let size = end - at - 4;
     let front = [
         (mark / 256 % 256) as u8,
         (mark % 256) as u8,
         (size / 256 % 256) as u8,
         (size % 256) as u8,
     ];
-    put(out, at, &front)
+    put(out, at, &front);
+    end
 }
 
 // Writes the body of the record of the entry at p.
@@ -157,9 +159,8 @@ pub fn put_entry(out: &mut [u8], at: usize, file: &[u8], pool: &[u16], e: Entry,
     requires { ⌜ Room (now out) at (entryItem e (now file) (now pool) p ∷ []) ⌝ }
     ensures { λ r. ⌜ Put (now (out .entry)) at (recordBytes (kindOf e) (entryBody e (now (file .entry)) (now (pool .entry)) p)) (now (out .exit)) r ⌝ }
 {
-    let size = entry_size(file, pool, e, p);
-    let b = put_mark(out, at, e.mark(), size - 4);
-    put_body(out, b, file, pool, e, p)
+    let b = put_body(out, at + 4, file, pool, e, p);
+    put_mark(out, at, e.mark(), b)
 }
 
 // Writes the records of n entries from where `from` ends.

@@ -12,8 +12,10 @@ use Rattle.records.proofs.Logic.{clash, and-left, and-right}
 use Rattle.class_reader.specs.Pool.{isTag}
 use Rattle.class_reader.specs.Entry.{isEntry, tableGood, tableEnd, tablesGood, tablesEnd, moduleTables}
 use Rattle.class_reader.specs.Attribute.{attributeEnd, attributeAt, contentsGood, nothingSeen, seenAt, see, attributeGood, faultUnless, endFaults, attributeFaults, seenFrom}
+use Rattle.class_reader.specs.Measure.{measureModule}
 use Rattle.class_reader.specs.Walk.{pickWalked, walkEnd, walkFrom, Readable}
 use Rattle.class_reader.specs.declared.entry.Entry.the-variants as Entry
+use Rattle.class_reader.specs.declared.measure.Measured.{Measured}
 use Rattle.class_reader.specs.declared.attribute.Attribute.{Attribute}
 use Rattle.class_reader.specs.declared.attribute.Attribute.the-variants.{Module, ModulePackages, ModuleMainClass, Other}
 use Rattle.class_reader.specs.declared.attribute.Seen.{Seen}
@@ -28,11 +30,11 @@ pub record StartsWith (l : List ℕ) (o : ℕ) : Type 0 where
   pub rest : List ℕ
   pub starts : l ≡ o ∷ rest
 
-end-fault : (at n : ℕ) (s : Seen) (a b : Bool) (o : ℕ) → pickWalked a (pickWalked b (Found s) (Fault n)) (Fault at) ≡ Fault o
+end-fault : (at n : ℕ) (s : Seen) (m : Measured) (a b : Bool) (o : ℕ) → pickWalked a (pickWalked b (Found s m) (Fault n)) (Fault at) ≡ Fault o
     → StartsWith (cond a [] (at ∷ []) ++ cond b [] (n ∷ [])) o
-end-fault at n s true true o e = clash (cc)
-end-fault at n s true false o e = record { rest = []; starts = cc }
-end-fault at n s false b o e = record { rest = cond b [] (n ∷ []); starts = cc }
+end-fault at n s m true true o e = clash (cc)
+end-fault at n s m true false o e = record { rest = []; starts = cc }
+end-fault at n s m false b o e = record { rest = cond b [] (n ∷ []); starts = cc }
 
 step-fault : (at : ℕ) (w : Walked) (l : List ℕ) (o : ℕ) → (w ≡ Fault o → StartsWith l o) → (a b : Bool) → pickWalked (a && b) w (Fault at) ≡ Fault o
     → StartsWith (cond a (cond b [] (at ∷ []) ++ l) (at ∷ [])) o
@@ -42,7 +44,7 @@ step-fault at w l o h false b e = record { rest = []; starts = cc }
 
 pub walk-fault : (f t : List ℕ) (n : ℕ) (s : Seen) (at o : ℕ) → walkFrom f t n s at ≡ Fault o → StartsWith (attributeFaults f t n s at) o
 unfolding walkFrom attributeFaults walkEnd endFaults faultUnless
-walk-fault f t zero s at o e = end-fault at (length f) s (eqb at (length f)) (ltb 0 (s .descriptor)) o e
+walk-fault f t zero s at o e = end-fault at (length f) s (measureModule f t (s .descriptor + 6)) (eqb at (length f)) (ltb 0 (s .descriptor)) o e
 walk-fault f t (suc n) s at o e =
     let s′ : Seen = see (attributeAt f t at) at s in
     let end : ℕ = attributeEnd f at in
@@ -51,36 +53,41 @@ walk-fault f t (suc n) s at o e =
 
 -- ---- no fault
 
-module _ (at n : ℕ) (s s′ : Seen) where
+module _ (at n : ℕ) (s s′ : Seen) (m m′ : Measured) where
   abbrev ended : Bool → Bool → Walked
-  ended a b = pickWalked a (pickWalked b (Found s) (Fault n)) (Fault at)
+  ended a b = pickWalked a (pickWalked b (Found s m) (Fault n)) (Fault at)
 
-  end-none : (a b : Bool) → ended a b ≡ Found s′ → cond a [] (at ∷ []) ++ cond b [] (n ∷ []) ≡ []
+  end-none : (a b : Bool) → ended a b ≡ Found s′ m′ → cond a [] (at ∷ []) ++ cond b [] (n ∷ []) ≡ []
   end-none true true e = refl
   end-none true false e = clash (cc)
   end-none false b e = clash (cc)
 
-  end-seen : (a b : Bool) → ended a b ≡ Found s′ → s ≡ s′
+  end-seen : (a b : Bool) → ended a b ≡ Found s′ m′ → s ≡ s′
   end-seen true true e = cc
   end-seen true false e = clash (cc)
   end-seen false b e = clash (cc)
 
+  end-measured : (a b : Bool) → ended a b ≡ Found s′ m′ → m ≡ m′
+  end-measured true true e = cc
+  end-measured true false e = clash (cc)
+  end-measured false b e = clash (cc)
+
 -- a walk that goes on finds nothing at fault in the first attribute
-step-both : (at : ℕ) (w : Walked) (s : Seen) (b : Bool) → pickWalked b w (Fault at) ≡ Found s → b ≡ true
-step-both at w s true e = refl
-step-both at w s false e = clash (cc)
+step-both : (at : ℕ) (w : Walked) (s : Seen) (m : Measured) (b : Bool) → pickWalked b w (Fault at) ≡ Found s m → b ≡ true
+step-both at w s m true e = refl
+step-both at w s m false e = clash (cc)
 
-step-on : (at : ℕ) (w : Walked) (s : Seen) (b : Bool) → pickWalked b w (Fault at) ≡ Found s → w ≡ Found s
-step-on at w s true e = e
-step-on at w s false e = clash (cc)
+step-on : (at : ℕ) (w : Walked) (s : Seen) (m : Measured) (b : Bool) → pickWalked b w (Fault at) ≡ Found s m → w ≡ Found s m
+step-on at w s m true e = e
+step-on at w s m false e = clash (cc)
 
-module _ (f t : List ℕ) (n : ℕ) (s : Seen) (at : ℕ) (s′ : Seen) (e : walkFrom f t (suc n) s at ≡ Found s′) where
+module _ (f t : List ℕ) (n : ℕ) (s : Seen) (at : ℕ) (s′ : Seen) (m′ : Measured) (e : walkFrom f t (suc n) s at ≡ Found s′ m′) where
   abbrev rest-found : Walked
   rest-found = walkFrom f t n (see (attributeAt f t at) at s) (attributeEnd f at)
 
   step-test : (leb (attributeEnd f at) (length f) && attributeGood f t s at) ≡ true
   unfolding walkFrom
-  step-test = step-both at rest-found s′ (leb (attributeEnd f at) (length f) && attributeGood f t s at) e
+  step-test = step-both at rest-found s′ m′ (leb (attributeEnd f at) (length f) && attributeGood f t s at) e
 
   pub step-whole : leb (attributeEnd f at) (length f) ≡ true
   step-whole = and-left (leb (attributeEnd f at) (length f)) (attributeGood f t s at) step-test
@@ -88,25 +95,28 @@ module _ (f t : List ℕ) (n : ℕ) (s : Seen) (at : ℕ) (s′ : Seen) (e : wal
   pub step-good : attributeGood f t s at ≡ true
   step-good = and-right (leb (attributeEnd f at) (length f)) (attributeGood f t s at) step-test
 
-  pub step-rest : walkFrom f t n (see (attributeAt f t at) at s) (attributeEnd f at) ≡ Found s′
+  pub step-rest : walkFrom f t n (see (attributeAt f t at) at s) (attributeEnd f at) ≡ Found s′ m′
   unfolding walkFrom
-  step-rest = step-on at rest-found s′ (leb (attributeEnd f at) (length f) && attributeGood f t s at) e
+  step-rest = step-on at rest-found s′ m′ (leb (attributeEnd f at) (length f) && attributeGood f t s at) e
 
-pub walk-none : (f t : List ℕ) (n : ℕ) (s : Seen) (at : ℕ) (s′ : Seen) → walkFrom f t n s at ≡ Found s′ → attributeFaults f t n s at ≡ []
+pub walk-none : (f t : List ℕ) (n : ℕ) (s : Seen) (at : ℕ) (s′ : Seen) (m′ : Measured) → walkFrom f t n s at ≡ Found s′ m′ → attributeFaults f t n s at ≡ []
 unfolding walkFrom attributeFaults walkEnd endFaults faultUnless
-walk-none f t zero s at s′ e = end-none at (length f) s s′ (eqb at (length f)) (ltb 0 (s .descriptor)) e
-walk-none f t (suc n) s at s′ e =
-    rw (step-whole f t n s at s′ e, step-good f t n s at s′ e)
-    (walk-none f t n (see (attributeAt f t at) at s) (attributeEnd f at) s′ (step-rest f t n s at s′ e))
+walk-none f t zero s at s′ m′ e = end-none at (length f) s s′ (measureModule f t (s .descriptor + 6)) m′ (eqb at (length f)) (ltb 0 (s .descriptor)) e
+walk-none f t (suc n) s at s′ m′ e =
+    rw (step-whole f t n s at s′ m′ e, step-good f t n s at s′ m′ e)
+    (walk-none f t n (see (attributeAt f t at) at s) (attributeEnd f at) s′ m′ (step-rest f t n s at s′ m′ e))
 
-pub walk-seen : (f t : List ℕ) (n : ℕ) (s : Seen) (at : ℕ) (s′ : Seen) → walkFrom f t n s at ≡ Found s′ → seenFrom f t n s at ≡ s′
+pub walk-seen : (f t : List ℕ) (n : ℕ) (s : Seen) (at : ℕ) (s′ : Seen) (m′ : Measured) → walkFrom f t n s at ≡ Found s′ m′ → seenFrom f t n s at ≡ s′
 unfolding walkFrom seenFrom walkEnd
-walk-seen f t zero s at s′ e = end-seen at (length f) s s′ (eqb at (length f)) (ltb 0 (s .descriptor)) e
-walk-seen f t (suc n) s at s′ e = walk-seen f t n (see (attributeAt f t at) at s) (attributeEnd f at) s′ (step-rest f t n s at s′ e)
+walk-seen f t zero s at s′ m′ e = end-seen at (length f) s s′ (measureModule f t (s .descriptor + 6)) m′ (eqb at (length f)) (ltb 0 (s .descriptor)) e
+walk-seen f t (suc n) s at s′ m′ e = walk-seen f t n (see (attributeAt f t at) at s) (attributeEnd f at) s′ m′ (step-rest f t n s at s′ m′ e)
 
-pub walk-found : (f t : List ℕ) (n : ℕ) (s : Seen) (at : ℕ) (s′ : Seen) → walkFrom f t n s at ≡ Found s′
-    → (attributeFaults f t n s at ≡ []) × (seenFrom f t n s at ≡ s′)
-walk-found f t n s at s′ e = (walk-none f t n s at s′ e, walk-seen f t n s at s′ e)
+pub found-measured : (f t : List ℕ) (n : ℕ) (s : Seen) (at : ℕ) (s′ : Seen) (m′ : Measured) → walkFrom f t n s at ≡ Found s′ m′ → measureModule f t (s′ .descriptor + 6) ≡ m′
+unfolding walkFrom walkEnd
+found-measured f t zero s at s′ m′ e =
+    let q : s ≡ s′ = end-seen at (length f) s s′ (measureModule f t (s .descriptor + 6)) m′ (eqb at (length f)) (ltb 0 (s .descriptor)) e in
+    rw (← q) (end-measured at (length f) s s′ (measureModule f t (s .descriptor + 6)) m′ (eqb at (length f)) (ltb 0 (s .descriptor)) e)
+found-measured f t (suc n) s at s′ m′ e = found-measured f t n (see (attributeAt f t at) at s) (attributeEnd f at) s′ m′ (step-rest f t n s at s′ m′ e)
 
 -- ---- what is found is good
 
@@ -173,39 +183,39 @@ good-told f t s at e =
     let b : Bool = contentsGood a f t (at + 6) (attributeEnd f at) in
     and-right (eqb (seenAt a s) 0) b (and-right (isTag 1 f t (u16At f at)) (eqb (seenAt a s) 0 && b) e)
 
-pub found-good : (f t : List ℕ) (n : ℕ) (s : Seen) (at : ℕ) (s′ : Seen) → SeenGood f t s → walkFrom f t n s at ≡ Found s′ → SeenGood f t s′
+pub found-good : (f t : List ℕ) (n : ℕ) (s : Seen) (at : ℕ) (s′ : Seen) (m′ : Measured) → SeenGood f t s → walkFrom f t n s at ≡ Found s′ m′ → SeenGood f t s′
 unfolding walkFrom walkEnd
-found-good f t zero s at s′ g e =
-    let q : s ≡ s′ = end-seen at (length f) s s′ (eqb at (length f)) (ltb 0 (s .descriptor)) e in
+found-good f t zero s at s′ m′ g e =
+    let q : s ≡ s′ = end-seen at (length f) s s′ (measureModule f t (s .descriptor + 6)) m′ (eqb at (length f)) (ltb 0 (s .descriptor)) e in
     rw q at g
-found-good f t (suc n) s at s′ g e =
-    let l : attributeEnd f at ≤ length f = leb-true (attributeEnd f at) (length f) (step-whole f t n s at s′ e) in
-    found-good f t n (see (attributeAt f t at) at s) (attributeEnd f at) s′
-    (see-good f t s at (attributeEnd f at) g (omega (arith, end-far f at)) (attributeAt f t at) (good-told f t s at (step-good f t n s at s′ e)))
-    (step-rest f t n s at s′ e)
+found-good f t (suc n) s at s′ m′ g e =
+    let l : attributeEnd f at ≤ length f = leb-true (attributeEnd f at) (length f) (step-whole f t n s at s′ m′ e) in
+    found-good f t n (see (attributeAt f t at) at s) (attributeEnd f at) s′ m′
+    (see-good f t s at (attributeEnd f at) g (omega (arith, end-far f at)) (attributeAt f t at) (good-told f t s at (step-good f t n s at s′ m′ e)))
+    (step-rest f t n s at s′ m′ e)
 
-end-some : (at n : ℕ) (s s′ : Seen) (a : Bool) → ended at n s s′ a (ltb 0 (s .descriptor)) ≡ Found s′ → 0 < s′ .descriptor
-end-some at n s s′ a e = go (ltb 0 (s .descriptor)) refl e
+end-some : (at n : ℕ) (s s′ : Seen) (m m′ : Measured) (a : Bool) → ended at n s s′ m m′ a (ltb 0 (s .descriptor)) ≡ Found s′ m′ → 0 < s′ .descriptor
+end-some at n s s′ m m′ a e = go (ltb 0 (s .descriptor)) refl e
   where
-    go : (b : Bool) → ltb 0 (s .descriptor) ≡ b → ended at n s s′ a b ≡ Found s′ → 0 < s′ .descriptor
+    go : (b : Bool) → ltb 0 (s .descriptor) ≡ b → ended at n s s′ m m′ a b ≡ Found s′ m′ → 0 < s′ .descriptor
     go true eb h =
-        let q : s ≡ s′ = end-seen at n s s′ a true h in
+        let q : s ≡ s′ = end-seen at n s s′ m m′ a true h in
         rw q at (ltb-true 0 (s .descriptor) eb)
     go false eb h = clash (none a h)
       where
-        none : (a : Bool) → ended at n s s′ a false ≡ Found s′ → _≡_ {A = ℕ} 0 1
+        none : (a : Bool) → ended at n s s′ m m′ a false ≡ Found s′ m′ → _≡_ {A = ℕ} 0 1
         none true k = cc
         none false k = cc
 
-found-some : (f t : List ℕ) (n : ℕ) (s : Seen) (at : ℕ) (s′ : Seen) → walkFrom f t n s at ≡ Found s′ → 0 < s′ .descriptor
+found-some : (f t : List ℕ) (n : ℕ) (s : Seen) (at : ℕ) (s′ : Seen) (m′ : Measured) → walkFrom f t n s at ≡ Found s′ m′ → 0 < s′ .descriptor
 unfolding walkFrom walkEnd
-found-some f t zero s at s′ e = end-some at (length f) s s′ (eqb at (length f)) e
-found-some f t (suc n) s at s′ e = found-some f t n (see (attributeAt f t at) at s) (attributeEnd f at) s′ (step-rest f t n s at s′ e)
+found-some f t zero s at s′ m′ e = end-some at (length f) s s′ (measureModule f t (s .descriptor + 6)) m′ (eqb at (length f)) e
+found-some f t (suc n) s at s′ m′ e = found-some f t n (see (attributeAt f t at) at s) (attributeEnd f at) s′ m′ (step-rest f t n s at s′ m′ e)
 
-pub found-readable : (f t : List ℕ) (n at : ℕ) (s : Seen) → walkFrom f t n nothingSeen at ≡ Found s → Readable f t s
-found-readable f t n at s e =
-    let g : SeenGood f t s = found-good f t n nothingSeen at s (nothing-good f t) e in
-    let l : 0 < s .descriptor = found-some f t n nothingSeen at s e in
+pub found-readable : (f t : List ℕ) (n at : ℕ) (s : Seen) (m : Measured) → walkFrom f t n nothingSeen at ≡ Found s m → Readable f t s
+found-readable f t n at s m e =
+    let g : SeenGood f t s = found-good f t n nothingSeen at s m (nothing-good f t) e in
+    let l : 0 < s .descriptor = found-some f t n nothingSeen at s m e in
     record {
       some = l;
       module-low = g .module-low l;

@@ -18,6 +18,7 @@ use Rattle.class_reader.specs.ClassFile.{headGood, isModuleInfo, fieldsG
 use Rattle.class_reader.specs.Walk.{walkFrom}
 use Rattle.class_reader.specs.declared.pool.Pool.{Pool}
 use Rattle.class_reader.specs.declared.pool.Pool.the-variants as Pool
+use Rattle.class_reader.specs.declared.measure.Measured.{Measured}
 use Rattle.class_reader.specs.declared.attribute.Seen.{Seen}
 use Rattle.class_reader.specs.declared.attribute.Walked.the-variants.{Found, Fault}
 use Rattle.class_reader.proofs.attribute.Laws.{end-far}
@@ -266,9 +267,9 @@ module _ (f t : List ℕ) (at : ℕ) where
       let q : faultsBehind f t at ≡ o ∷ b .rest = fields-passed e ∙ b .starts in
       rw q (then-first o (b .rest) w (behind-first f t at o (b .rest) q))
 
-  pub behind-found : (s : Seen) → fieldsGood f t at ≡ true → walkFrom f t (u16At f (at + 12)) nothingSeen (at + 14) ≡ Found s → faultsBehind f t at ≡ []
-  behind-found s e h = fields-passed e ∙ walk-none f t (u16At f (at + 12)) nothingSeen (at + 14) s h
+  pub behind-found : (s : Seen) (m : Measured) → fieldsGood f t at ≡ true → walkFrom f t (u16At f (at + 12)) nothingSeen (at + 14) ≡ Found s m → faultsBehind f t at ≡ []
+  behind-found s m e h = fields-passed e ∙ walk-none f t (u16At f (at + 12)) nothingSeen (at + 14) s m h
 
-  pub behind-seen : (s : Seen) → walkFrom f t (u16At f (at + 12)) nothingSeen (at + 14) ≡ Found s → seenBehind f t at ≡ s
+  pub behind-seen : (s : Seen) (m : Measured) → walkFrom f t (u16At f (at + 12)) nothingSeen (at + 14) ≡ Found s m → seenBehind f t at ≡ s
   unfolding seenBehind
-  behind-seen s h = walk-seen f t (u16At f (at + 12)) nothingSeen (at + 14) s h
+  behind-seen s m h = walk-seen f t (u16At f (at + 12)) nothingSeen (at + 14) s m h

@@ -17,15 +17,17 @@ use Rattle.records.proofs.Logic.{and-left, and-right}
 use Rattle.class_reader.specs.Pool.{poolCount, poolEnd, poolOf}
 use Rattle.class_reader.specs.Attribute.{nothingSeen, descriptorItems}
 use Rattle.class_reader.specs.ClassFile.{headGood, isModuleInfo, fieldsGood, faultsBehind, seenBehind, faultsFrom, lowest, itemsFrom, itemsOf, thenFaults, classAnswer, ClassRead}
+use Rattle.class_reader.specs.Measure.{measureModule, Small}
 use Rattle.class_reader.specs.Reader.{ItemsRead, BehindRead, PoolRead}
 use Rattle.class_reader.specs.Table.{Filled}
-use Rattle.class_reader.specs.Walk.{walkFrom, Readable}
+use Rattle.class_reader.specs.Walk.{measuredIn, walkFrom, Readable}
+use Rattle.class_reader.specs.declared.measure.Measured.{Measured}
 use Rattle.class_reader.specs.declared.attribute.Seen.{Seen}
 use Rattle.class_reader.specs.declared.attribute.Walked.{Walked}
 use Rattle.class_reader.specs.declared.attribute.Walked.the-variants as Walked
 use Rattle.class_reader.specs.declared.pool.Pool.{Pool}
 use Rattle.class_reader.specs.declared.pool.Pool.the-variants.{End, Fault}
-use Rattle.class_reader.proofs.attribute.Faults.{found-readable}
+use Rattle.class_reader.proofs.attribute.Faults.{found-measured, found-readable}
 use Rattle.class_reader.proofs.class_file.Lowest as Lowest
 
 -- ---- behind the pool
@@ -57,18 +59,25 @@ module _ (f t : List ℕ) (at : ℕ) (b : Bool) (eb : b ≡ fieldsGood f t at) w
       unfolding outputAfter
       behind-fault o x h = record { answer = sym (Lowest.behind-fault f t at x _ good (walked ∙ h)); output = refl }
 
-      module _ (s : Seen) (h : w ≡ Walked.Found s) where
+      module _ (s : Seen) (m : Measured) (h : w ≡ Walked.Found s m) where
         pub behind-found : Readable f t s
-        behind-found = found-readable f t (u16At f (at + 12)) (at + 14) s (walked ∙ h)
+        behind-found = found-readable f t (u16At f (at + 12)) (at + 14) s m (walked ∙ h)
+
+        pub behind-measured : m ≡ measureModule f t (s .descriptor + 6)
+        behind-measured = sym (found-measured f t (u16At f (at + 12)) nothingSeen (at + 14) s m (walked ∙ h))
 
         pub behind-read : (o o₁ : List ℕ) (r : Written) → ItemsRead (descriptorItems f t s) o o₁ r → BehindRead f t at o o₁ r
         unfolding thenFaults
         behind-read o o₁ r i =
-            let a : faultsBehind f t at ≡ [] = Lowest.behind-found f t at s good (walked ∙ h) in
-            let c : seenBehind f t at ≡ s = Lowest.behind-seen f t at s (walked ∙ h) in
+            let a : faultsBehind f t at ≡ [] = Lowest.behind-found f t at s m good (walked ∙ h) in
+            let c : seenBehind f t at ≡ s = Lowest.behind-seen f t at s m (walked ∙ h) in
             record { answer = i .answer ∙ sym (rw (a, c)); output = i .output ∙ sym (rw c) }
 
-pub ruleset behind-laws = (behind-fields, behind-place, behind-fault, behind-found, behind-read)
+pub behind-small : (f : List ℕ) (w : Walked) (s : Seen) (m : Measured) → w ≡ Walked.Found s m → Small f (measuredIn w) → Small f m
+unfolding measuredIn
+behind-small f w s m h k = rw h at k
+
+pub ruleset behind-laws = (behind-fields, behind-place, behind-fault, behind-found, behind-measured, behind-small, behind-read)
 
 -- ---- the pool
 

@@ -45,7 +45,7 @@ none-readable : (f t : List ℕ) (n at : ℕ) → attributeFaults f t n nothingS
 none-readable f t n at e = go (walkFrom f t n nothingSeen at) refl
   where
     go : (w : Walked) → walkFrom f t n nothingSeen at ≡ w → Readable f t (seenFrom f t n nothingSeen at)
-    go (Walked.Found s) h = rw (walk-seen f t n nothingSeen at s h) (found-readable f t n at s h)
+    go (Walked.Found s m) h = rw (walk-seen f t n nothingSeen at s m h) (found-readable f t n at s m h)
     go (Walked.Fault o) h =
         let s : StartsWith (attributeFaults f t n nothingSeen at) o = walk-fault f t n nothingSeen at o h in
         let x : o ∷ s .rest ≡ [] = sym (s .starts) ∙ e in

@@ -1,8 +1,8 @@
 -- What stands before and behind the name of an entry, and the record of an entry.
 use Prim.Native.Nat.{ℕ, _+_, _-_, _*_, _/_, _%_, _≤_, _<_}
-use mathlib.Core.Path.{_≡_, refl, sym, _∙_, ap}
-use mathlib.Core.List.{List, [], _∷_, _++_, append-assoc}
-use mathlib.Core.Bool.{true, cond, _&&_, not}
+use mathlib.Core.Path.{_≡_, refl, sym, ap}
+use mathlib.Core.List.{List, [], _∷_, _++_}
+use mathlib.Core.Bool.{true, _&&_, not}
 use native.Mathlib.Omega.{arith}
 use lib.ListN.{length, getD, length-append}
 use lib.Dec.{leb}
@@ -12,13 +12,14 @@ use Rattle.records.specs.Name.{allUnnamed}
 use Rattle.records.specs.Record.{markFor}
 use Rattle.records.specs.Output.{Put, twoBytes, nameBytes, recordBytes}
 use Rattle.records.proofs.Logic.{and-left, and-right}
-use Rattle.records.proofs.output.Written.{put-both, put-room, written-none, first-room, second-room, third-room, put-three}
+use Rattle.records.proofs.output.Written.{put-long, written-none, first-room, second-room, third-room, put-three}
 use Rattle.class_reader.specs.Pool.{hasName, nameAt, hasVersion, versionAt}
 use Rattle.class_reader.specs.Entry.{namesGood, listBytes, nameTag, entryEnd, restGood, isEntry, kindOf, highFlags, prefixOf, suffixOf, entryBody, entryItem, bytesOf}
-use Rattle.class_reader.specs.Output.{NamesRoom, Room}
+use Rattle.class_reader.specs.Output.{NamesRoom, Room, Marked}
 use Rattle.class_reader.specs.declared.entry.Entry.{Entry}
 use Rattle.class_reader.specs.declared.entry.Entry.the-variants.{Module, Requires, Exports, Opens, Uses, Provides, Package, MainClass}
 use Rattle.class_reader.proofs.entry.Names.{name-short, version-short, all-short}
+use Rattle.class_reader.proofs.output.Putting.{put-front}
 
 -- nothing is written
 none-put : (o : List ℕ) (at : ℕ) → Put o at [] o at
@@ -158,9 +159,20 @@ module _ (o : List ℕ) (at : ℕ) (f : List ℕ) (e : Entry) (p : ℕ) where
 
 -- ---- a mark and a length
 
-pub mark-put : (o : List ℕ) (at mark size : ℕ) (out : List ℕ) (r : ℕ) → Put o at ((mark / 256 % 256) ∷ (mark % 256) ∷ (size / 256 % 256) ∷ (size % 256) ∷ []) out r → Put o at (twoBytes mark ++ twoBytes size) out r
+pub mark-start : (at end : ℕ) → at + 4 ≤ end → at ≤ end
+mark-start at end h = omega arith
+
+pub mark-size : (at end : ℕ) → at + 4 ≤ end → 4 ≤ end - at
+mark-size at end h = omega arith
+
+pub mark-put : (o : List ℕ) (at mark end : ℕ) (out : List ℕ) (r : ℕ)
+    → Put o at ((mark / 256 % 256) ∷ (mark % 256) ∷ ((end - at - 4) / 256 % 256) ∷ ((end - at - 4) % 256) ∷ []) out r → Marked o at mark end out end
 unfolding twoBytes
-mark-put o at mark size out r p = p
+mark-put o at mark end out r p =
+    let e : end - (at + 4) ≡ end - at - 4 = omega arith in
+    record { place = refl; bytes = rw e (p .bytes) }
+
+pub ruleset mark-laws = (mark-start, mark-size, mark-put)
 
 -- ---- the body
 
@@ -216,35 +228,32 @@ pub ruleset body-laws = (body-front, body-short, body-name, entry-rest, body-end
 
 -- ---- the record
 
-module _ (o : List ℕ) (at : ℕ) (f t : List ℕ) (e : Entry) (p : ℕ) (g : isEntry e f t p ≡ true) (h : Room o at (entryItem e f t p ∷ []))
-    (size : ℕ) (es : size ≡ cond (isEntry e f t p) (4 + length (entryBody e f t p)) 0) where
-  size-is : size ≡ 4 + length (entryBody e f t p)
-  size-is = es ∙ rw g
-
+module _ (o : List ℕ) (at : ℕ) (f t : List ℕ) (e : Entry) (p : ℕ) (h : Room o at (entryItem e f t p ∷ [])) where
   room : at + (4 + length (entryBody e f t p)) ≤ length o
   unfolding bytesOf entryItem recordBytes twoBytes
   room = omega (arith, h .room, length-append (recordBytes (kindOf e) (entryBody e f t p)) [])
 
-  pub entry-four : 4 ≤ size
-  entry-four = omega (arith, size-is)
+  pub entry-start : at + 4 ≤ length o
+  entry-start = omega (arith, room)
 
-  pub entry-front : at + 4 ≤ length o
-  entry-front = omega (arith, room)
+  pub entry-body : at + 4 + length (entryBody e f t p) ≤ length o
+  entry-body = omega (arith, room)
 
-  module _ (mark : ℕ) (em : mark ≡ markFor (kindOf e)) (o₁ : List ℕ) (b : ℕ) (q : Put o at (twoBytes mark ++ twoBytes (size - 4)) o₁ b) where
-    long-front : length (twoBytes mark ++ twoBytes (size - 4)) ≡ 4
-    unfolding twoBytes
-    long-front = refl
+  module _ (o₁ : List ℕ) (b : ℕ) (q : Put o (at + 4) (entryBody e f t p) o₁ b) where
+    pub entry-front : at + 4 ≤ length o₁
+    entry-front = omega (arith, room, put-long o (at + 4) (entryBody e f t p) o₁ b entry-body q)
 
-    pub entry-body : b + length (entryBody e f t p) ≤ length o₁
-    entry-body = put-room o at (twoBytes mark ++ twoBytes (size - 4)) o₁ b (length (entryBody e f t p)) (omega (arith, room, long-front)) q
+    pub entry-behind : at + 4 ≤ b
+    entry-behind = omega (arith, q .place)
 
-    pub entry-put : (out : List ℕ) (r : ℕ) → Put o₁ b (entryBody e f t p) out r → Put o at (recordBytes (kindOf e) (entryBody e f t p)) out r
-    unfolding recordBytes
-    entry-put out r s =
-        let z : size - 4 ≡ length (entryBody e f t p) = omega (arith, size-is) in
-        let a : Put o at ((twoBytes mark ++ twoBytes (size - 4)) ++ entryBody e f t p) out r =
-        put-both o at (twoBytes mark ++ twoBytes (size - 4)) o₁ b (entryBody e f t p) out r (omega (arith, room, long-front)) q s in
-        rw (append-assoc (twoBytes mark) (twoBytes (size - 4)) (entryBody e f t p), em, z) at a
+    pub entry-put : (mark : ℕ) (out : List ℕ) (r : ℕ) → Marked o₁ at mark b out r → mark ≡ markFor (kindOf e)
+        → Put o at (recordBytes (kindOf e) (entryBody e f t p)) out r
+    unfolding recordBytes twoBytes
+    entry-put mark out r m em =
+        let z : b - (at + 4) ≡ length (entryBody e f t p) = omega (arith, q .place) in
+        let s : Put o₁ at (twoBytes mark ++ twoBytes (b - (at + 4))) out (at + 4) = record { place = refl; bytes = m .bytes } in
+        let a : Put o at ((twoBytes mark ++ twoBytes (b - (at + 4))) ++ entryBody e f t p) out b =
+        put-front o at 4 (twoBytes mark ++ twoBytes (b - (at + 4))) (entryBody e f t p) o₁ b out (at + 4) refl entry-start q s in
+        rw (m .place) (rw (em, z) at a)
 
-pub ruleset entry-laws = (entry-four, entry-front, entry-body, entry-put)
+pub ruleset entry-laws = (entry-start, entry-body, entry-front, entry-behind, entry-put)

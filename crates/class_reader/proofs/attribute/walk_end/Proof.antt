@@ -1,5 +1,5 @@
-use borrow.Author.Needs.{needs}
 use Rattle.class_reader.proofs.attribute.Laws.{walk-end-laws}
+use borrow.Author.Needs.{needs}
 use Rattle.class_reader.proofs.attribute.walk_end.Statement.{statement}
 use Rattle.class_reader.proofs.attribute.walk_end.Tie as tie
 

@@ -1,4 +1,4 @@
-use Rattle.class_reader.proofs.class_file.Reading.{behind-laws}
+use Rattle.class_reader.proofs.class_file.Reading.{behind-laws, behind-found, behind-measured, behind-small}
 use borrow.Author.Needs.{needs}
 use Rattle.class_reader.proofs.class_file.read_attributes.Statement.{statement}
 use Rattle.class_reader.proofs.class_file.read_attributes.Tie as tie
@@ -15,7 +15,7 @@ read-attributes-spec =
     (λ c κs. search (behind-laws, needs))
     (λ c. search (behind-laws, needs))
     (λ c. search (behind-laws, needs))
-    (λ c κs. search (behind-laws, needs))
+    (λ c κs. (search needs, (search behind-found, (search behind-measured, search behind-small))))
     (λ c. search (behind-laws, needs))
     (λ c. search (behind-laws, needs))
     (λ c. search (behind-laws, needs)))

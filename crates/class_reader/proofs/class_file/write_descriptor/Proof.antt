@@ -9,8 +9,6 @@ write-descriptor-spec =
     (tie.spec
     (λ c. search (descriptor-laws, needs))
     (λ c κs. search (descriptor-laws, needs))
-    (λ c. search (descriptor-laws, needs))
-    (λ c κs. search (descriptor-laws, needs))
     (λ c κs. (search needs, (search needs, (search few-packages, search read-sized))))
     (λ c. search (descriptor-laws, needs))
     (λ c. search (descriptor-laws, needs))

@@ -7,10 +7,9 @@ pub put-entry-spec : {M : Type 1} → statement M
 put-entry-spec =
     tie.close
     (tie.spec
-    (λ c κs. search needs)
-    (λ c κs. search needs)
     (λ c. search (entry-laws, needs))
     (λ c κs. search (entry-laws, needs))
     (λ c κs. search (entry-laws, needs))
-    (λ c. search needs)
+    (λ c κs. search (entry-laws, needs))
+    (λ c. search (entry-laws, needs))
     (λ c. search (entry-laws, needs)))

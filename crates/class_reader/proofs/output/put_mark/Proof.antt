@@ -1,4 +1,4 @@
-use Rattle.class_reader.proofs.output.Parts.{mark-put}
+use Rattle.class_reader.proofs.output.Parts.{mark-laws}
 use borrow.Author.Needs.{needs}
 use Rattle.class_reader.proofs.output.put_mark.Statement.{statement}
 use Rattle.class_reader.proofs.output.put_mark.Tie as tie
@@ -7,11 +7,13 @@ pub put-mark-spec : {M : Type 1} → statement M
 put-mark-spec =
     tie.close
     (tie.spec
-    (λ c. search needs)
-    (λ c. search needs)
-    (λ c. search needs)
-    (λ c. search needs)
-    (λ c. search needs)
-    (λ c κs. search needs)
-    (λ c. search needs)
-    (λ c. search mark-put))
+    (λ c. search (mark-laws, needs))
+    (λ c. search (mark-laws, needs))
+    (λ c. search (mark-laws, needs))
+    (λ c. search (mark-laws, needs))
+    (λ c. search (mark-laws, needs))
+    (λ c. search (mark-laws, needs))
+    (λ c. search (mark-laws, needs))
+    (λ c κs. search (mark-laws, needs))
+    (λ c. search (mark-laws, needs))
+    (λ c. search (mark-laws, needs)))

@@ -1,10 +1,10 @@
 use Rattle.class_reader.proofs.attribute.Laws.{contents-laws}
 use borrow.Author.Needs.{needs}
-use Rattle.class_reader.proofs.attribute.contents_good.Statement.{statement}
-use Rattle.class_reader.proofs.attribute.contents_good.Tie as tie
+use Rattle.class_reader.proofs.attribute.measure_contents.Statement.{statement}
+use Rattle.class_reader.proofs.attribute.measure_contents.Tie as tie
 
-pub contents-good-spec : {M : Type 1} → statement M
-contents-good-spec =
+pub measure-contents-spec : {M : Type 1} → statement M
+measure-contents-spec =
     tie.close
     (tie.spec
     (λ c. search (contents-laws, needs))
