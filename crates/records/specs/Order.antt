@@ -65,16 +65,28 @@ standsAt s table count at name = ltb at count && sameBytes name (nameIn s (getD 
 unfoldable pub shifted : List ℕ → ℕ → ℕ → List ℕ
 shifted t from count = take (from + 1) t ++ (take (count - from) (drop from t) ++ drop (count + 1) t)
 
--- the entry's name is put among the first `count`, which leaves r entries
+-- the entry's name is put among the first `count`, which leaves r entries; what the table holds past them stays
 pub record Inserted (s before after : List ℕ) (count entry r : ℕ) : Type 0 where
   pub names-are : map (nameIn s) (take r after) ≡ insertName (nameIn s entry) (map (nameIn s) (take count before))
   pub long : length after ≡ length before
+  pub least : count ≤ r
   pub most : r ≤ count + 1
   pub sorted : isOrdered (map (nameIn s) (take r after)) ≡ true
+  pub rest : drop r after ≡ drop r before
+
+-- the same for one name after the other
+pub record NamesInserted (s : List ℕ) (names : List (List ℕ)) (before after : List ℕ) (count r : ℕ) : Type 0 where
+  pub names-are : map (nameIn s) (take r after) ≡ orderedFrom (map (nameIn s) (take count before)) names
+  pub sorted : isOrdered (map (nameIn s) (take r after)) ≡ true
+  pub small : allShort (map (nameIn s) (take count before)) ≡ true → allShort (map (nameIn s) (take r after)) ≡ true
+  pub long : length after ≡ length before
+  pub rest : drop r after ≡ drop r before
 
 -- the first r entries tell the packages in byte order without repeats
 pub record PackagesOrdered (s before after : List ℕ) (r : ℕ) : Type 0 where
   pub names-are : map (nameIn s) (take r after) ≡ ordered (packagesOf s)
   pub small : allShort (map (nameIn s) (take r after)) ≡ true
   pub long : length after ≡ length before
+  pub within : r ≤ length after
   pub most : r < 16384
+  pub rest : drop r after ≡ drop r before

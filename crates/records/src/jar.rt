@@ -1,5 +1,5 @@
 // The jar reader: the records of an automatic module, for a jar and its packages.
-ghost use Prim.Native.Nat.{_≤_};
+ghost use Prim.Native.Nat.{_*_, _≤_};
 ghost use lib.ListN.{length};
 ghost use Rattle.records.specs.Automatic.{derivedName, derived, validated};
 ghost use Rattle.records.specs.Jar.{Ordered, Fitted, NamedRead, JarRead};
@@ -42,14 +42,46 @@ fn write_ordered(
 }
 
 // The same, with the packages put in order first.
-fn write_fitted(name: &[u8], packages: &[u8], out: &mut [u8]) -> Written
+fn write_in_order(name: &[u8], packages: &[u8], table: &mut [usize], out: &mut [u8]) -> Written
+    requires { ⌜ length (now name) ≤ 255 ⌝ }
+    requires { ⌜ length (now packages) ≤ 65535 ⌝ }
+    requires { ⌜ length (now packages) ≤ 4 * length (now table) ⌝ }
+    ensures { λ r. ⌜ Fitted (now (name .entry)) (now (packages .entry)) (now (out .entry)) (now (out .exit)) r ⌝ }
+{
+    let count = ordered_packages(packages, table);
+    write_ordered(name, packages, table, count, out)
+}
+
+// The same, for few packages.
+fn write_few(name: &[u8], packages: &[u8], out: &mut [u8]) -> Written
+    requires { ⌜ length (now name) ≤ 255 ⌝ }
+    requires { ⌜ length (now packages) ≤ 1024 ⌝ }
+    ensures { λ r. ⌜ Fitted (now (name .entry)) (now (packages .entry)) (now (out .entry)) (now (out .exit)) r ⌝ }
+{
+    let mut table = [0usize; 256];
+    write_in_order(name, packages, &mut table, out)
+}
+
+// The same, for as many as package records can tell.
+fn write_many(name: &[u8], packages: &[u8], out: &mut [u8]) -> Written
     requires { ⌜ length (now name) ≤ 255 ⌝ }
     requires { ⌜ length (now packages) ≤ 65535 ⌝ }
     ensures { λ r. ⌜ Fitted (now (name .entry)) (now (packages .entry)) (now (out .entry)) (now (out .exit)) r ⌝ }
 {
     let mut table = [0usize; 16384];
-    let count = ordered_packages(packages, &mut table);
-    write_ordered(name, packages, &table, count, out)
+    write_in_order(name, packages, &mut table, out)
+}
+
+// The same: a small table is made sooner.
+fn write_fitted(name: &[u8], packages: &[u8], out: &mut [u8]) -> Written
+    requires { ⌜ length (now name) ≤ 255 ⌝ }
+    requires { ⌜ length (now packages) ≤ 65535 ⌝ }
+    ensures { λ r. ⌜ Fitted (now (name .entry)) (now (packages .entry)) (now (out .entry)) (now (out .exit)) r ⌝ }
+{
+    if packages.len() <= 1024 {
+        return write_few(name, packages, out);
+    }
+    write_many(name, packages, out)
 }
 
 // The same for a name that the manifest gives.

@@ -2,12 +2,17 @@
 ghost use mathlib.Core.Path.{_≡_};
 ghost use mathlib.Core.Bool.{true};
 ghost use mathlib.Core.List.{map};
-ghost use Prim.Native.Nat.{_≤_, _<_};
-ghost use lib.ListN.{length, take};
-ghost use Rattle.records.specs.Order.{nameIn, isOrdered, Placed, standsAt, shifted, Inserted, PackagesOrdered};
+ghost use Prim.Native.Nat.{_+_, _-_, _*_, _≤_, _<_};
+ghost use lib.ListN.{length, take, drop};
+ghost use Rattle.records.specs.Name.{nameOf, namesOf, memName};
+ghost use Rattle.records.specs.Record.{bodies};
+ghost use Rattle.records.specs.Order.{nameIn, isOrdered, Placed, standsAt, shifted, Inserted, NamesInserted, PackagesOrdered};
 use crate::bytes::before;
+use crate::bytes::byte;
+use crate::bytes::head;
 use crate::bytes::part;
 use crate::bytes::same;
+use crate::bytes::tail;
 use crate::name::name_of;
 use crate::record::Cursor;
 use crate::record::Kind;
@@ -21,7 +26,7 @@ pub fn name_in(s: &[u8], entry: usize) -> &[u8]
 }
 
 // How many of the first `count` entries have names before this one: a binary search.
-fn place(s: &[u8], table: &[usize], count: usize, name: &[u8]) -> usize
+fn place_by_halves(s: &[u8], table: &[usize], count: usize, name: &[u8]) -> usize
     requires { ⌜ count ≤ length (now table) ⌝ }
     requires { ⌜ isOrdered (map (nameIn (now s)) (take count (now table))) ≡ true ⌝ }
     ensures { λ r. ⌜ Placed (now (s .entry)) (now (table .entry)) count (now (name .entry)) r ⌝ }
@@ -37,6 +42,20 @@ fn place(s: &[u8], table: &[usize], count: usize, name: &[u8]) -> usize
         }
     }
     low
+}
+
+// The same: the last is tested first, since names often come in order.
+fn place(s: &[u8], table: &[usize], count: usize, name: &[u8]) -> usize
+    requires { ⌜ count ≤ length (now table) ⌝ }
+    requires { ⌜ isOrdered (map (nameIn (now s)) (take count (now table))) ≡ true ⌝ }
+    ensures { λ r. ⌜ Placed (now (s .entry)) (now (table .entry)) count (now (name .entry)) r ⌝ }
+{
+    if 0 < count {
+        if before(name_in(s, table[count - 1]), name) {
+            return count;
+        }
+    }
+    place_by_halves(s, table, count, name)
 }
 
 // Whether the name stands at `at`, among the first `count` entries.
@@ -79,24 +98,75 @@ pub fn insert(s: &[u8], table: &mut [usize], count: usize, entry: usize) -> usiz
     count + 1
 }
 
-// Fills the table with the packages of package records in byte order without repeats; returns their number.
-pub fn ordered_packages(s: &[u8], table: &mut [usize]) -> usize
-    requires { ⌜ length (now s) ≤ 65535 ⌝ }
-    requires { ⌜ 16384 ≤ length (now table) ⌝ }
-    ensures { λ r. ⌜ PackagesOrdered (now (s .entry)) (now (table .entry)) (now (table .exit)) r ⌝ }
+// Whether the name is one of the first `count` entries'.
+pub fn contains(s: &[u8], table: &[usize], count: usize, name: &[u8]) -> bool
+    requires { ⌜ count ≤ length (now table) ⌝ }
+    requires { ⌜ isOrdered (map (nameIn (now s)) (take count (now table))) ≡ true ⌝ }
+    ensures { λ r. ⌜ r ≡ memName (now (name .entry)) (map (nameIn (now (s .entry))) (take count (now (table .entry)))) ⌝ }
 {
-    let mut c = Cursor { at: 0 };
-    let mut count: usize = 0;
+    let at = place(s, table, count, name);
+    stands_at(s, table, count, at, name)
+}
+
+// Puts the names in front of the records of this kind, of s from `from` up to `to`, where they belong among the first `count`;
+// returns their number.
+pub fn insert_names(
+    s: &[u8],
+    from: usize,
+    to: usize,
+    kind: Kind,
+    table: &mut [usize],
+    count: usize,
+) -> usize
+    requires { ⌜ length (now s) ≤ 65535 ⌝ }
+    requires { ⌜ 4 * count + (to - from) ≤ 4 * length (now table) ⌝ }
+    requires { ⌜ isOrdered (map (nameIn (now s)) (take count (now table))) ≡ true ⌝ }
+    ensures { λ r. ⌜ NamesInserted (now (s .entry)) (map nameOf (bodies kind (drop from (take to (now (s .entry)))))) (now (table .entry)) (now (table .exit)) count r ⌝ }
+    ensures { λ r. ⌜ 4 * r ≤ 4 * count + (to - from) ⌝ }
+{
+    let source = head(s, to);
+    let mut c = Cursor { at: from };
+    let mut n = count;
     loop {
-        match c.next(s, Kind::Package) {
+        match c.next(source, kind) {
             Next::Body { start, len, next } => {
-                let name = name_of(part(s, start, len));
-                count = insert(s, table, count, (start + 1) * 65536 + name.len());
+                let name = name_of(part(source, start, len));
+                n = insert(s, table, n, (start + 1) * 65536 + name.len());
                 c = next;
             }
             Next::Nothing => {
-                return count;
+                return n;
             }
         }
     }
+}
+
+// Fills the table with the packages of package records in byte order without repeats; returns their number.
+pub fn ordered_packages(s: &[u8], table: &mut [usize]) -> usize
+    requires { ⌜ length (now s) ≤ 65535 ⌝ }
+    requires { ⌜ length (now s) ≤ 4 * length (now table) ⌝ }
+    ensures { λ r. ⌜ PackagesOrdered (now (s .entry)) (now (table .entry)) (now (table .exit)) r ⌝ }
+{
+    insert_names(s, 0, s.len(), Kind::Package, table, 0)
+}
+
+// Puts the n names that stand in s from `from` on, one after the other, in byte order without repeats into the table; returns
+// their number.
+pub fn insert_list(s: &[u8], from: usize, n: usize, table: &mut [usize]) -> usize
+    requires { ⌜ from ≤ 65535 ⌝ }
+    requires { ⌜ n ≤ 65535 ⌝ }
+    requires { ⌜ n ≤ length (now table) ⌝ }
+    ensures { λ r. ⌜ NamesInserted (now (s .entry)) (namesOf n (drop from (now (s .entry)))) (now (table .entry)) (now (table .exit)) 0 r ⌝ }
+    ensures { λ r. ⌜ r ≤ n ⌝ }
+{
+    let mut at = from;
+    let mut i: usize = 0;
+    let mut count: usize = 0;
+    while i < n {
+        let name = name_of(tail(s, at));
+        count = insert(s, table, count, (at + 1) * 65536 + name.len());
+        at = at + 1 + byte(s, at);
+        i += 1;
+    }
+    count
 }

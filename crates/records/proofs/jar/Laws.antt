@@ -29,8 +29,8 @@ use Rattle.records.proofs.request.Laws.{good-short}
 -- ---- the name and the package records are good
 
 -- the table that is put in order
-pub table-ordered : (s t₀ t : List ℕ) (count : ℕ) → 16384 ≤ length t₀ → PackagesOrdered s t₀ t count → Ordered s t count
-table-ordered s t₀ t count l p = record { names-are = p .names-are; small = p .small; within = omega (arith, p .most, p .long); most = omega (arith, p .most) }
+pub table-ordered : (s t₀ t : List ℕ) (count : ℕ) → PackagesOrdered s t₀ t count → Ordered s t count
+table-ordered s t₀ t count p = record { names-are = p .names-are; small = p .small; within = p .within; most = omega (arith, p .most) }
 
 module _ (name s t : List ℕ) (count : ℕ) (p : Ordered s t count) where
   module _ (z : ℕ) (ez : z ≡ packagesSize (map (nameIn s) (take count t))) where

@@ -6,14 +6,15 @@ use mathlib.Core.Bool.{Bool, true, false, _&&_}
 use native.Mathlib.Omega.{arith}
 use native.Mathlib.Numerals.{add-one, sub-one}
 use lib.ListN.{length, getD, take, drop, set, length-map, length-set, length-append, length-drop, take-append-drop, List·getD-map, List·getD-append}
-use lib.Seq.{getD-take, length-take-le, take-suc, drop-cons, set-at, take-at, take-take, take-nil}
+use lib.Seq.{getD-take, length-take-le, take-suc, drop-cons, set-at, take-at, drop-at, take-take, take-nil}
 use lib.Dec.{ltb}
 use borrow.Author.Tests.{lt-ltb, le-ltb, ltb-true, ltb-false}
 use Rattle.records.specs.Bytes.{sameBytes, beforeBytes}
+use Rattle.records.specs.Name.{memName}
 use Rattle.records.specs.Order.{insertName, isOrdered, nameIn, Placed, standsAt, shifted, Inserted}
 use Rattle.records.proofs.Logic.{clash}
 use Rattle.records.proofs.bytes.Order.{before-trans}
-use Rattle.records.proofs.order.Ordered.{ordered-below, insert-ordered, insert-last, insert-there, insert-new}
+use Rattle.records.proofs.order.Ordered.{ordered-below, insert-ordered, insert-last, insert-there, insert-new, mem-there, mem-none}
 
 pub name-is : (s r : List ℕ) (entry : ℕ) → r ≡ take (entry % 65536) (drop (entry / 65536) s) → r ≡ nameIn s entry
 unfolding nameIn
@@ -33,6 +34,16 @@ module _ (s table : List ℕ) (count : ℕ) where
   names-below h o i j l k =
       rw (← name-at i (omega arith), ← name-at j k)
       (ordered-below (map (nameIn s) (take count table)) (nameIn s 0) i j o l (rw (names-long h) k))
+
+  -- where one stands before the name, those in front of it do too
+  names-ahead : count ≤ length table → isOrdered (map (nameIn s) (take count table)) ≡ true → (name : List ℕ) (i j : ℕ) → i ≤ j → j < count
+      → beforeBytes (nameIn s (getD table j 0)) name ≡ true → beforeBytes (nameIn s (getD table i 0)) name ≡ true
+  names-ahead h o name i j k c b = both (ltb i j) refl
+    where
+      both : (u : Bool) → ltb i j ≡ u → beforeBytes (nameIn s (getD table i 0)) name ≡ true
+      both true eu =
+          before-trans (nameIn s (getD table i 0)) (nameIn s (getD table j 0)) name (names-below h o i j (ltb-true i j eu) c) b
+      both false eu = let q : j ≡ i = omega (arith, ltb-false i j eu) in rw q at b
 
 -- ---- the binary search
 
@@ -70,18 +81,9 @@ module _ (s table : List ℕ) (count : ℕ) (name : List ℕ) (low high : ℕ) (
       within = h .within;
       room = h .room;
       sorted = h .sorted;
-      below = λ i k. go i (low + (high - low) / 2) (omega arith) (omega (arith, h .within)) (here ∙ e);
+      below = λ i k. names-ahead s table count (h .room) (h .sorted) name i (low + (high - low) / 2) (omega arith) (omega (arith, h .within)) (here ∙ e);
       above = h .above;
     }
-      where
-        go : (i j : ℕ) → i ≤ j → j < count → beforeBytes (nameIn s (getD table j 0)) name ≡ true → beforeBytes (nameIn s (getD table i 0)) name ≡ true
-        go i j k c b = both (ltb i j) refl
-          where
-            both : (u : Bool) → ltb i j ≡ u → beforeBytes (nameIn s (getD table i 0)) name ≡ true
-            both true eu =
-                before-trans (nameIn s (getD table i 0)) (nameIn s (getD table j 0)) name
-                (names-below s table count (h .room) (h .sorted) i j (ltb-true i j eu) c) b
-            both false eu = let q : j ≡ i = omega (arith, ltb-false i j eu) in rw q at b
 
     pub place-down : r ≡ false → PlaceAt s table count name low (low + (high - low) / 2)
     place-down e = record {
@@ -99,6 +101,23 @@ module _ (s table : List ℕ) (count : ℕ) (name : List ℕ) (low high : ℕ) (
       record { within = omega (arith, h .within); below = h .below; above = λ k. rw e at (h .above (omega arith)) }
 
 pub ruleset place-laws = (place-start, place-index, place-up, place-down, place-done)
+
+-- ---- the test of the last
+
+module _ (s table : List ℕ) (count : ℕ) (h : count ≤ length table) (l : 0 < count) where
+  pub place-back : count - 1 < length table
+  place-back = omega arith
+
+  -- the last stands before the name
+  pub place-last : (name m : List ℕ) (r : Bool) → isOrdered (map (nameIn s) (take count table)) ≡ true → m ≡ nameIn s (getD table (count - 1) 0)
+      → r ≡ beforeBytes m name → r ≡ true → Placed s table count name count
+  place-last name m r o em er e = record {
+    within = omega arith;
+    below = λ i k. names-ahead s table count h o name i (count - 1) (omega arith) (omega arith) (cc);
+    above = λ k. absurd (omega arith);
+  }
+
+pub ruleset last-laws = (place-back, place-last)
 
 -- ---- whether the name stands there
 
@@ -192,27 +211,38 @@ module _ (f : ℕ → List ℕ) where
   map-drop (suc n) [] = refl
   map-drop (suc n) (x ∷ l) = map-drop n l
 
-drop-take : (m n : ℕ) (l : List ℕ) → m ≤ n → drop m (take n l) ≡ take (n - m) (drop m l)
-drop-take zero n l h = let e : n - 0 ≡ n = omega arith in rw e
-drop-take (suc m) zero l h = absurd (omega arith)
-drop-take (suc m) (suc n) [] h = sym (take-nil (suc n - suc m))
-drop-take (suc m) (suc n) (x ∷ l) h = let e : suc n - suc m ≡ n - m = omega arith in rw e (drop-take m n l (omega arith))
+pub drop-take : (m n : ℕ) (l : List ℕ) → drop m (take n l) ≡ take (n - m) (drop m l)
+drop-take zero n l = let e : n - 0 ≡ n = omega arith in rw e
+drop-take (suc m) zero l = let e : 0 - suc m ≡ 0 = omega arith in rw e
+drop-take (suc m) (suc n) [] = sym (take-nil (suc n - suc m))
+drop-take (suc m) (suc n) (x ∷ l) = let e : suc n - suc m ≡ n - m = omega arith in rw e (drop-take m n l)
 
 -- the entry in the place that the shift left
-shifted-set : (t : List ℕ) (at count entry : ℕ) → at ≤ count → count < length t
-    → take (count + 1) (set (shifted t at count) at entry) ≡ take at t ++ (entry ∷ take (count - at) (drop at t))
-unfolding shifted
-shifted-set t at count entry l h =
-    let p : List ℕ = take at t in
-    let q : List ℕ = take (count - at) (drop at t) in
-    let d : List ℕ = drop (count + 1) t in
-    let lp : length p ≡ at = length-take-le at t (omega arith) in
-    let lq : length q ≡ count - at = length-take-le (count - at) (drop at t) (rw length-drop (omega arith)) in
-    let x : take (suc at) t ++ (q ++ d) ≡ p ++ (getD t at 0 ∷ (q ++ d)) =
-    rw (take-suc t at 0 (omega arith), append-assoc p (getD t at 0 ∷ []) (q ++ d)) in
-    let y : p ++ (entry ∷ (q ++ d)) ≡ (p ++ (entry ∷ q)) ++ d = sym (append-assoc p (entry ∷ q) d) in
-    let n : length (p ++ (entry ∷ q)) ≡ count + 1 = length-append p (entry ∷ q) ∙ omega arith in
-    rw (add-one at, x, set-at p (getD t at 0) (q ++ d) entry at lp, y) (take-at (p ++ (entry ∷ q)) d (count + 1) n)
+module _ (t : List ℕ) (at count entry : ℕ) (l : at ≤ count) (h : count < length t) where
+  shifted-set : set (shifted t at count) at entry ≡ (take at t ++ (entry ∷ take (count - at) (drop at t))) ++ drop (count + 1) t
+  unfolding shifted
+  shifted-set =
+      let p : List ℕ = take at t in
+      let q : List ℕ = take (count - at) (drop at t) in
+      let d : List ℕ = drop (count + 1) t in
+      let lp : length p ≡ at = length-take-le at t (omega arith) in
+      let x : take (suc at) t ++ (q ++ d) ≡ p ++ (getD t at 0 ∷ (q ++ d)) =
+      rw (take-suc t at 0 (omega arith), append-assoc p (getD t at 0 ∷ []) (q ++ d)) in
+      let y : p ++ (entry ∷ (q ++ d)) ≡ (p ++ (entry ∷ q)) ++ d = sym (append-assoc p (entry ∷ q) d) in
+      rw (add-one at, x, set-at p (getD t at 0) (q ++ d) entry at lp) y
+
+  set-long : length (take at t ++ (entry ∷ take (count - at) (drop at t))) ≡ count + 1
+  set-long =
+      let lp : length (take at t) ≡ at = length-take-le at t (omega arith) in
+      let lq : length (take (count - at) (drop at t)) ≡ count - at = length-take-le (count - at) (drop at t) (rw length-drop (omega arith)) in
+      length-append (take at t) (entry ∷ take (count - at) (drop at t)) ∙ omega arith
+
+  set-take : take (count + 1) (set (shifted t at count) at entry) ≡ take at t ++ (entry ∷ take (count - at) (drop at t))
+  set-take = rw shifted-set (take-at (take at t ++ (entry ∷ take (count - at) (drop at t))) (drop (count + 1) t) (count + 1) set-long)
+
+  -- what stands behind stays
+  set-rest : drop (count + 1) (set (shifted t at count) at entry) ≡ drop (count + 1) t
+  set-rest = rw shifted-set (drop-at (take at t ++ (entry ∷ take (count - at) (drop at t))) (drop (count + 1) t) (count + 1) set-long)
 
 -- the name stands there, or it does not
 stands-true : (s t : List ℕ) (count at : ℕ) (name : List ℕ) → standsAt s t count at name ≡ true → (at < count) × (sameBytes name (nameIn s (getD t at 0)) ≡ true)
@@ -246,7 +276,7 @@ module _ (s t : List ℕ) (count entry : ℕ) (name : List ℕ) (at : ℕ) (r : 
       let f : (at < count) × (sameBytes name (nameIn s (getD t at 0)) ≡ true) = stands-true s t count at name (sym er ∙ e) in
       let g : sameBytes name (getD l at (nameIn s 0)) ≡ true = rw (name-at s t count at (f .0)) (f .1) in
       let k : insertName name l ≡ l = insert-there name (nameIn s 0) at l (omega (arith, long-l, f .0)) ahead (omega (arith, long-l, f .0)) g in
-      record { names-are = rw (← en) (sym k); long = refl; most = omega arith; sorted = o }
+      record { names-are = rw (← en) (sym k); long = refl; least = omega arith; most = omega arith; sorted = o; rest = refl }
 
   placed : standsAt s t count at name ≡ false → insertName name l ≡ take at l ++ (name ∷ drop at l)
   unfolding l
@@ -269,16 +299,40 @@ module _ (s t : List ℕ) (count entry : ℕ) (name : List ℕ) (at : ℕ) (r : 
     told e =
         let a : map (nameIn s) (take at t) ≡ take at l = sym (map-take (nameIn s) at (take count t) ∙ ap (map (nameIn s)) (take-take at count t (p .within))) in
         let b : map (nameIn s) (take (count - at) (drop at t)) ≡ drop at l =
-        sym (map-drop (nameIn s) at (take count t) ∙ ap (map (nameIn s)) (drop-take at count t (p .within))) in
-        rw (et, shifted-set t at count entry (p .within) h, map-append (nameIn s) (take at t) (entry ∷ take (count - at) (drop at t)), a, b, ← en) (sym (placed (sym er ∙ e)))
+        sym (map-drop (nameIn s) at (take count t) ∙ ap (map (nameIn s)) (drop-take at count t)) in
+        rw (et, set-take t at count entry (p .within) h, map-append (nameIn s) (take at t) (entry ∷ take (count - at) (drop at t)), a, b, ← en) (sym (placed (sym er ∙ e)))
 
     pub inserted-new : r ≡ false → Inserted s t (set t₁ at entry) count entry (count + 1)
     unfolding l
     inserted-new e = record {
       names-are = told e;
       long = length-set t₁ at entry ∙ ap length et ∙ length-shifted t at count (p .within) h;
+      least = omega arith;
       most = omega arith;
       sorted = rw (told e) (insert-ordered (nameIn s entry) l o);
+      rest = rw et (set-rest t at count entry (p .within) h);
     }
 
 pub ruleset insert-laws = (inserted-none, inserted-index, inserted-new)
+
+-- ---- whether a name is there
+
+pub contains-is : (s t : List ℕ) (count : ℕ) (name : List ℕ) (at : ℕ) (r : Bool) → count ≤ length t → isOrdered (map (nameIn s) (take count t)) ≡ true
+    → Placed s t count name at → r ≡ standsAt s t count at name → r ≡ memName name (map (nameIn s) (take count t))
+contains-is s t count name at r h o p er = go (standsAt s t count at name) refl
+  where
+    l : List (List ℕ)
+    l = map (nameIn s) (take count t)
+
+    long-l : length l ≡ count
+    long-l = names-long s t count h
+
+    go : (b : Bool) → standsAt s t count at name ≡ b → r ≡ memName name l
+    go true e =
+        let f : (at < count) × (sameBytes name (nameIn s (getD t at 0)) ≡ true) = stands-true s t count at name e in
+        er ∙ e ∙ sym (mem-there name (nameIn s 0) at l (omega (arith, long-l, f .0)) (rw (name-at s t count at (f .0)) (f .1)))
+    go false e =
+        er ∙ e ∙ sym (mem-none name (nameIn s 0) at l o (omega (arith, long-l, p .within))
+        (λ i k. rw (name-at s t count i (omega (arith, p .within))) (p .below i k))
+        (λ k. let c : at < count = omega (arith, long-l) in rw (name-at s t count at c) (p .above c))
+        (λ k. let c : at < count = omega (arith, long-l) in rw (name-at s t count at c) (stands-false s t count at name e c)))

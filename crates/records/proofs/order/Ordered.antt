@@ -9,8 +9,8 @@ use lib.Seq.{drop-cons}
 use Rattle.records.specs.Bytes.{sameBytes, beforeBytes}
 use Rattle.records.specs.Name.{memName}
 use Rattle.records.specs.Order.{insertName, orderedFrom, ordered, isOrdered, allNames}
-use Rattle.records.proofs.Logic.{and-left, and-right}
-use Rattle.records.proofs.bytes.Laws.{same-eq}
+use Rattle.records.proofs.Logic.{clash, and-left, and-right}
+use Rattle.records.proofs.bytes.Laws.{same-eq, same-refl}
 use Rattle.records.proofs.bytes.Order.{before-trans, before-total, before-one-way, before-differ, same-not-before, before-total-back}
 
 -- ---- the tests of one turn
@@ -67,13 +67,18 @@ or-twice : (a b : Bool) → (a || (a || b)) ≡ (a || b)
 or-twice true b = refl
 or-twice false b = refl
 
+or-true : (a : Bool) → (a || true) ≡ true
+or-true true = refl
+or-true false = refl
+
 or-swap : (a b c : Bool) → (a || (b || c)) ≡ (b || (a || c))
 or-swap true true c = refl
 or-swap true false c = refl
 or-swap false true c = refl
 or-swap false false c = refl
 
-insert-mem : (n m : List ℕ) (l : List (List ℕ)) → memName n (insertName m l) ≡ (sameBytes m n || memName n l)
+-- the name put in, and those that stood there
+pub insert-mem : (n m : List ℕ) (l : List (List ℕ)) → memName n (insertName m l) ≡ (sameBytes m n || memName n l)
 unfolding memName insertName
 insert-mem n m [] = refl
 insert-mem n m (k ∷ l) = go (stands m k) (insert-mem n m l)
@@ -89,7 +94,8 @@ or-assoc true false c d e = rw e
 or-assoc false true c d e = rw e
 or-assoc false false c d e = rw e
 
-from-mem : (n : List ℕ) (done l : List (List ℕ)) → memName n (orderedFrom done l) ≡ (memName n done || memName n l)
+-- the names of both lists
+pub from-mem : (n : List ℕ) (done l : List (List ℕ)) → memName n (orderedFrom done l) ≡ (memName n done || memName n l)
 unfolding orderedFrom memName
 from-mem n done [] = go (memName n done)
   where
@@ -155,6 +161,42 @@ ordered-below (n ∷ l) d zero zero h lt k = absurd (omega arith)
 ordered-below (n ∷ l) d zero (suc j) h lt k = first-below n l d j h (omega arith)
 ordered-below (n ∷ l) d (suc i) zero h lt k = absurd (omega arith)
 ordered-below (n ∷ l) d (suc i) (suc j) h lt k = ordered-below l d i j (ordered-rest n l h) (omega arith) (omega arith)
+
+-- ---- whether a name is there
+
+before-not-same : (a b : List ℕ) → beforeBytes a b ≡ true → sameBytes a b ≡ false
+before-not-same a b h = go (sameBytes a b) refl
+  where
+    go : (t : Bool) → sameBytes a b ≡ t → sameBytes a b ≡ false
+    go true e = let f : beforeBytes a b ≡ false = same-not-before a b e in clash (cc)
+    go false e = e
+
+-- one that stands before the first is not
+mem-ahead : (n m : List ℕ) (l : List (List ℕ)) → isOrdered (m ∷ l) ≡ true → beforeBytes n m ≡ true → memName n (m ∷ l) ≡ false
+unfolding isOrdered memName
+mem-ahead n m [] h b = rw (before-differ n m b)
+mem-ahead n m (k ∷ l) h b =
+    rw (before-differ n m b)
+    (mem-ahead n k l (and-right (beforeBytes m k) (isOrdered (k ∷ l)) h) (before-trans n m k b (and-left (beforeBytes m k) (isOrdered (k ∷ l)) h)))
+
+module _ (n d : List ℕ) where
+  -- it stands at r
+  pub mem-there : (r : ℕ) (l : List (List ℕ)) → r < length l → sameBytes n (getD l r d) ≡ true → memName n l ≡ true
+  unfolding memName
+  mem-there r [] k e = absurd (omega arith)
+  mem-there zero (m ∷ l) k e = rw (same-eq n m e, same-refl m)
+  mem-there (suc r) (m ∷ l) k e = rw (mem-there r l (omega arith) e) (or-true (sameBytes m n))
+
+  -- those below r stand before it, and the one at r is not it and does not
+  pub mem-none : (r : ℕ) (l : List (List ℕ)) → isOrdered l ≡ true → r ≤ length l → ((i : ℕ) → i < r → beforeBytes (getD l i d) n ≡ true)
+      → (r < length l → beforeBytes (getD l r d) n ≡ false) → (r < length l → sameBytes n (getD l r d) ≡ false) → memName n l ≡ false
+  unfolding memName
+  mem-none zero [] o k b a e = refl
+  mem-none zero (m ∷ l) o k b a e = mem-ahead n m l o (before-total-back n m (a (omega arith)) (e (omega arith)))
+  mem-none (suc r) [] o k b a e = absurd (omega arith)
+  mem-none (suc r) (m ∷ l) o k b a e =
+      rw (before-not-same m n (b 0 (omega arith)))
+      (mem-none r l (ordered-rest m l o) (omega arith) (λ i h. b (suc i) (omega arith)) (λ h. a (omega arith)) (λ h. e (omega arith)))
 
 -- ---- where a name is put
 

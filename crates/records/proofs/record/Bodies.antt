@@ -230,6 +230,10 @@ module _ (k : Kind) (s : List ℕ) (at : ℕ) (r : Next) (er : r ≡ nextOf k s 
     pub next-later : at + 4 ≤ next .at
     next-later = omega (arith, q .later, q .next-is)
 
+    -- and it is found where something is left
+    pub next-within : at ≤ length s
+    next-within = omega (arith, q .later, q .room, length-drop at s)
+
     pub body-room : at ≤ length s → start + len ≤ length s
     body-room l = omega (arith, q .room, length-drop at s)
 
@@ -251,7 +255,7 @@ module _ (k : Kind) (s : List ℕ) (at : ℕ) (r : Next) (er : r ≡ nextOf k s 
 
 -- ---- record number i of a kind
 
-take-front : (n : ℕ) (l : List ℕ) → take (length (take n l)) l ≡ take n l
+pub take-front : (n : ℕ) (l : List ℕ) → take (length (take n l)) l ≡ take n l
 take-front zero l = refl
 take-front (suc n) [] = refl
 take-front (suc n) (x ∷ l) = ap {B = List ℕ} (λ r. x ∷ r) (take-front n l)

@@ -1,4 +1,3 @@
-use Rattle.records.proofs.jar.Laws.{table-ordered}
 use borrow.Author.Needs.{needs}
 use Rattle.records.proofs.jar.write_fitted.Statement.{statement}
 use Rattle.records.proofs.jar.write_fitted.Tie as tie
@@ -7,9 +6,9 @@ pub write-fitted-spec : {M : Type 1} → statement M
 write-fitted-spec =
     tie.close
     (tie.spec
-    (λ c. search (table-ordered, needs))
-    (λ c κs. search (table-ordered, needs))
-    (λ c. search (table-ordered, needs))
-    (λ c κs. search (table-ordered, needs))
-    (λ c. search (table-ordered, needs))
-    (λ c. search (table-ordered, needs)))
+    (λ c κs. search needs)
+    (λ c. search needs)
+    (λ c. search needs)
+    (λ c κs. search needs)
+    (λ c. search needs)
+    (λ c. search needs))
