@@ -41,6 +41,11 @@ pub record Added (before : List ℕ) (k : ℕ) (after : List ℕ) : Type 0 where
   pub below : k < 256 → (j : ℕ) → holds after j ≡ holds before j || eqb j k
   pub above : 256 ≤ k → after ≡ before
 
+-- r is the word w with bit j % 64 more. From 256 on there is no position j, and nothing changes
+pub record AddedBit (w j r : ℕ) : Type 0 where
+  pub below : j < 256 → (k : ℕ) → bit r k ≡ bit w k || eqb k (j % 64)
+  pub above : 256 ≤ j → r ≡ w
+
 -- r is the first number from k on that satisfies p, n where there is none below n
 pub record FirstFrom (p : ℕ → Bool) (k n r : ℕ) : Type 0 where
   pub from : k ≤ r

@@ -6,6 +6,7 @@ mod filter;
 mod modules;
 pub mod owner;
 mod reach;
+pub mod read;
 mod readability;
 pub mod resolve;
 mod resolver;
