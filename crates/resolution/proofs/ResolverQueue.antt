@@ -95,7 +95,7 @@ abbrev pub Follows : List ℕ → List ℕ → Bool → List ℕ → Line → Li
 Follows s q inRound ps l (fault x o) = l .halt ≡ Halt.Refused (errorOf s q (moduleNotFound x o))
 Follows s q inRound ps l (lined k) = Waits s q inRound ps l k
 
-any-append : {A : Type 0} (f : A → Bool) (a b : List A) → any f (a ++ b) ≡ (any f a || any f b)
+pub any-append : {A : Type 0} (f : A → Bool) (a b : List A) → any f (a ++ b) ≡ (any f a || any f b)
 unfolding any
 any-append f [] b = refl
 any-append f (x ∷ a) b = turned (f x) (any-append f a b)

@@ -1,37 +1,41 @@
 -- A quick test that a name is in none of the modules seen so far: a table of 65,536 bits, two of them for a name; and the
 -- questions about modules at positions as the code asks them, of a set and the table of its starts.
-use Prim.Native.Nat.{ℕ, _+_, _*_, _/_, _%_}
+use Prim.Native.Nat.{ℕ, _/_, _%_}
 use mathlib.Core.Path.{_≡_}
-use mathlib.Core.Bool.{Bool, true, false, _&&_}
+use mathlib.Core.Bool.{Bool, true, false, _&&_, cond}
 use mathlib.Core.Option.{Option, none, some}
-use mathlib.Core.List.{List, [], _∷_}
+use mathlib.Core.List.{List, []}
+use Rattle.records.specs.Index.{hashOf}
 use Rattle.records.specs.Name.{memName}
+use Rattle.records.specs.Order.{nameIn}
 use Rattle.records.specs.Record.{bodies}
 use Rattle.records.specs.declared.finder.Found.{Found}
 use Rattle.records.specs.declared.finder.Found.the-variants.{At, Nothing}
 use Rattle.records.specs.declared.record.Kind.{Kind}
 use Rattle.records.specs.declared.record.Kind.the-variants as Kind
-use Rattle.resolution.specs.Lists.{Name, Mem, any, first}
+use Rattle.resolution.specs.Lists.{Name, Mem, any, keep, first}
+use Rattle.resolution.specs.Owner.{least, lesser}
 use Rattle.resolution.specs.Graph.{edge}
 use Rattle.resolution.specs.Resolver.{Inputs, blockOf, namesOf, requiresName}
+use Rattle.resolution.specs.declared.modules.Least.{Least}
 
 -- ---- the filter
-
--- the bytes as the coefficients of a polynomial, at m; 65,521 is a prime
-unfoldable pub hashFrom : ℕ → ℕ → List ℕ → ℕ
-hashFrom m h [] = h
-hashFrom m h (b ∷ bs) = hashFrom m ((h * m + b) % 65521) bs
-
-unfoldable pub hashOf : ℕ → Name → ℕ
-hashOf m n = hashFrom m 0 n
 
 -- bit h of the table
 unfoldable pub bitAt : List ℕ → ℕ → Bool
 bitAt words h = edge words (h / 256) (h % 256)
 
--- both bits of the name are set
+-- both bits of a name's number are set
+unfoldable pub hasBits : List ℕ → ℕ → Bool
+hasBits words h = bitAt words (h % 65536) && bitAt words (h / 65536 % 65536)
+
 unfoldable pub isMarked : List ℕ → Name → Bool
-isMarked words n = bitAt words (hashOf 17117 n) && bitAt words (hashOf 40503 n)
+isMarked words n = hasBits words (hashOf n)
+
+-- `after` has the bits of `before`, and both of this number
+pub record BitsSet (before : List ℕ) (h : ℕ) (after : List ℕ) : Type 0 where
+  pub kept : (x : ℕ) → hasBits before x ≡ true → hasBits after x ≡ true
+  pub new : hasBits after h ≡ true
 
 -- `after` has the marks of `before`, and marks these names
 pub record MarkedAll (before : List ℕ) (names : List Name) (after : List ℕ) : Type 0 where
@@ -41,6 +45,21 @@ pub record MarkedAll (before : List ℕ) (names : List Name) (after : List ℕ) 
 -- each name in front of the records of this kind of the modules at these positions is marked
 pub record Covers (w : Inputs) (k : Kind) (words ps : List ℕ) : Type 0 where
   pub each : (i : ℕ) → Mem i ps → (n : Name) → memName n (namesOf w k i) ≡ true → isMarked words n ≡ true
+
+-- ---- the least of some names
+
+-- where the name stands in the set is told by an entry
+unfoldable pub leastOf : List ℕ → Least → Option Name
+leastOf set l = cond (l .found) (some (nameIn set (l .entry))) none
+
+-- the lesser of two, where there are two
+unfoldable pub lesserOf : Option Name → Option Name → Option Name
+lesserOf none o = o
+lesserOf (some x) o = lesser x o
+
+-- the least of these names that is in the table
+unfoldable pub leastIn : List Name → List Name → Option Name
+leastIn table names = least (keep (λ n. memName n table) names)
 
 -- ---- modules at positions
 

@@ -19,6 +19,7 @@ pub mod Short
 pub mod Visit
 pub mod Resolver
 pub mod Filter
+pub mod Lookup
 pub mod Runs
 pub mod Readability
 pub mod Configure

@@ -3,6 +3,7 @@ ghost use mathlib.Core.Path.{_≡_};
 ghost use lib.ListN.{take};
 ghost use Rattle.records.specs.Set.{checkSet};
 ghost use Rattle.records.specs.declared.set.SetAnswer.the-variants.{Modules};
+ghost use Rattle.resolution.specs.Lookup.{Lookup};
 ghost use Rattle.resolution.specs.Resolve.{refused};
 ghost use Rattle.resolution.specs.Configure.{MemberRow, AcceptedWith, Configured, PermittedRow};
 use crate::configuration::Configuration;
@@ -85,14 +86,16 @@ pub fn configure(
     request: &[u8],
     starts: &[usize],
     count: usize,
+    index: &[u16],
     order: &[usize],
     n: usize,
 ) -> Resolution
     requires { ⌜ checkSet (now set) ≡ record { answer = Modules count; starts = now starts } ⌝ }
+    requires { ⌜ Lookup (now set) (now starts) count (now index) ⌝ }
     ensures { λ r. ⌜ Configured (now (set .entry)) (now (request .entry)) count (take n (now (order .entry))) r ⌝ }
 {
     let members = member_row(order, n);
     let mut reads = [0u64; 1024];
-    let unnamed = read_edges(set, request, starts, count, members, &mut reads);
+    let unnamed = read_edges(set, request, starts, count, index, members, &mut reads);
     accept(members, reads, unnamed)
 }

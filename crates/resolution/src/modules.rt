@@ -1,19 +1,20 @@
 // Questions about the modules at some positions of a set: the first `n` of an array of positions.
 ghost use mathlib.Core.Path.{_≡_};
-ghost use mathlib.Core.Bool.{not, _&&_, _||_};
+ghost use mathlib.Core.Bool.{true, not, _&&_, _||_};
 ghost use mathlib.Core.Option.{some};
-ghost use mathlib.Core.List.{map};
+ghost use mathlib.Core.List.{map, flatMap};
 ghost use Prim.Native.Nat.{_+_, _≤_};
-ghost use lib.ListN.{length, getD, take};
+ghost use lib.ListN.{length, getD, take, drop};
 ghost use Rattle.records.specs.Bytes.{beforeBytes};
-ghost use Rattle.records.specs.Name.{nameOf};
+ghost use Rattle.records.specs.Name.{nameOf, memName};
+ghost use Rattle.records.specs.Order.{nameIn, isOrdered};
 ghost use Rattle.records.specs.Record.{bodies};
 ghost use Rattle.records.specs.declared.record.Kind.the-variants as Kind;
 ghost use Rattle.resolution.specs.Lists.{any, keep};
 ghost use Rattle.resolution.specs.Owner.{least};
 ghost use Rattle.resolution.specs.Resolver.{namesOf, hasNamed, isOneOf, requiresName, isMetBefore, splitOf, splitAt};
-ghost use Rattle.resolution.specs.Filter.{Covers, asked, askedBefore, foundOf, positionIn, firstNamed, requiresIn, isRequired};
-use crate::filter::marked;
+ghost use Rattle.resolution.specs.Filter.{MarkedAll, Covers, leastOf, lesserOf, leastIn, asked, askedBefore, foundOf, positionIn, firstNamed, requiresIn, isRequired};
+use crate::filter::mark_names;
 use crate::resolver::Halt;
 use records::bytes::before;
 use records::bytes::part;
@@ -24,12 +25,21 @@ use records::descriptor::required;
 use records::error::ModuleError;
 use records::finder::Found;
 use records::name::name_of;
+use records::order::contains;
+use records::order::name_in;
+use records::order::ordered_packages;
 use records::record::Cursor;
 use records::record::Kind;
 use records::record::Next;
 use records::record::find_body;
 use records::set::block;
 use records::set::entry;
+
+// The least of some packages: whether there is one, and where it stands in the set, as an entry of a table of names.
+pub struct Least {
+    pub found: bool,
+    pub entry: usize,
+}
 
 // Whether i is one of the positions.
 pub fn is_one_of(order: &[usize], n: usize, i: usize) -> bool
@@ -73,33 +83,6 @@ pub fn first_with(
     Found::Nothing
 }
 
-// Whether one of the modules has such a record. The filter marks the names that they have.
-pub fn is_named(
-    set: &[u8],
-    starts: &[usize],
-    order: &[usize],
-    n: usize,
-    filter: &[u64],
-    kind: Kind,
-    name: &[u8],
-) -> bool
-    requires { ⌜ length (now filter) ≡ 1024 ⌝ }
-    requires { ⌜ Covers (asked (now set) (now starts)) kind (now filter) (take n (now order)) ⌝ }
-    ensures { λ r. ⌜ r ≡ hasNamed (asked (now (set .entry)) (now (starts .entry))) kind (take n (now (order .entry))) (now (name .entry)) ⌝ }
-{
-    if marked(filter, name) {
-        match first_with(set, starts, order, n, kind, name) {
-            Found::At(_) => {
-                return true;
-            }
-            Found::Nothing => {
-                return false;
-            }
-        }
-    }
-    false
-}
-
 // The position, 0 where there is none.
 fn position(found: Found) -> usize
     ensures { λ r. ⌜ r ≡ positionIn found ⌝ }
@@ -139,112 +122,176 @@ fn refusal(set: &[u8], starts: &[usize], order: &[usize], n: usize, p: usize, na
     }
 }
 
-// Whether one of the modules at the positions has this package, and it stands before the least so far.
-fn is_lesser(
-    set: &[u8],
-    starts: &[usize],
-    order: &[usize],
-    n: usize,
-    filter: &[u64],
-    found: bool,
-    best: &[u8],
-    name: &[u8],
-) -> bool
-    requires { ⌜ length (now filter) ≡ 1024 ⌝ }
-    requires { ⌜ Covers (asked (now set) (now starts)) Kind.Package (now filter) (take n (now order)) ⌝ }
-    ensures { λ r. ⌜ r ≡ (hasNamed (asked (now (set .entry)) (now (starts .entry))) Kind.Package (take n (now (order .entry))) (now (name .entry)) && (not found || beforeBytes (now (name .entry)) (now (best .entry)))) ⌝ }
+// Whether the table has this package, and it stands before the least so far.
+fn is_lesser(set: &[u8], b: &[u8], table: &[usize], count: usize, least: Least, name: &[u8]) -> bool
+    requires { ⌜ count ≤ length (now table) ⌝ }
+    requires { ⌜ isOrdered (map (nameIn (now b)) (take count (now table))) ≡ true ⌝ }
+    ensures { λ r. ⌜ r ≡ (memName (now (name .entry)) (map (nameIn (now (b .entry))) (take count (now (table .entry)))) && (not (least .found) || beforeBytes (now (name .entry)) (nameIn (now (set .entry)) (least .entry)))) ⌝ }
 {
-    if is_named(set, starts, order, n, filter, Kind::Package, name) {
-        if found {
-            return before(name, best);
+    if contains(b, table, count, name) {
+        if least.found {
+            return before(name, name_in(set, least.entry));
         }
         return true;
     }
     false
 }
 
-// The test of the packages of this block, which is that of the module at p: the least in byte order of those that one of the
-// modules at the positions has.
-fn find_split_in(
+// The least so far, or a package of the module at i that stands before it and that the table has.
+fn least_in(
     set: &[u8],
     starts: &[usize],
-    order: &[usize],
-    n: usize,
-    filter: &[u64],
-    p: usize,
+    i: usize,
     b: &[u8],
-) -> Halt
+    table: &[usize],
+    count: usize,
+    least: Least,
+) -> Least
     requires { ⌜ length (now set) ≤ 65535 ⌝ }
-    requires { ⌜ length (now filter) ≡ 1024 ⌝ }
-    requires { ⌜ Covers (asked (now set) (now starts)) Kind.Package (now filter) (take n (now order)) ⌝ }
-    ensures { λ r. ⌜ r ≡ splitOf (asked (now (set .entry)) (now (starts .entry))) (take n (now (order .entry))) p (least (keep (hasNamed (asked (now (set .entry)) (now (starts .entry))) Kind.Package (take n (now (order .entry)))) (map nameOf (bodies Kind.Package (now (b .entry)))))) ⌝ }
+    requires { ⌜ count ≤ length (now table) ⌝ }
+    requires { ⌜ isOrdered (map (nameIn (now b)) (take count (now table))) ≡ true ⌝ }
+    ensures { λ r. ⌜ leastOf (now (set .entry)) r ≡ lesserOf (leastOf (now (set .entry)) least) (leastIn (map (nameIn (now (b .entry))) (take count (now (table .entry)))) (namesOf (asked (now (set .entry)) (now (starts .entry))) Kind.Package i)) ⌝ }
 {
+    let source = block(set, starts, i);
+    let from = entry(starts, i);
     let mut c = Cursor { at: 0 };
-    let mut found = false;
-    let mut best = &b[..0];
+    let mut low = least;
     loop {
-        match c.next(b, Kind::Package) {
+        match c.next(source, Kind::Package) {
             Next::Body { start, len, next } => {
-                let name = name_of(part(b, start, len));
-                if is_lesser(set, starts, order, n, filter, found, best, name) {
-                    found = true;
-                    best = name;
+                let name = name_of(part(source, start, len));
+                if is_lesser(set, b, table, count, low, name) {
+                    low = Least {
+                        found: true,
+                        entry: (from + start + 1) * 65536 + name.len(),
+                    };
                 }
                 c = next;
             }
             Next::Nothing => {
-                if found {
-                    return refusal(set, starts, order, n, p, best);
-                }
-                return Halt::Open;
+                return low;
             }
         }
     }
 }
 
-// The test of the packages of the module at p, where those at the positions are resolved. The filter marks their packages.
+// The least of the packages of the modules at the positions that the table has.
+fn least_shared(
+    set: &[u8],
+    starts: &[usize],
+    order: &[usize],
+    n: usize,
+    b: &[u8],
+    table: &[usize],
+    count: usize,
+) -> Least
+    requires { ⌜ length (now set) ≤ 65535 ⌝ }
+    requires { ⌜ count ≤ length (now table) ⌝ }
+    requires { ⌜ isOrdered (map (nameIn (now b)) (take count (now table))) ≡ true ⌝ }
+    ensures { λ r. ⌜ leastOf (now (set .entry)) r ≡ leastIn (map (nameIn (now (b .entry))) (take count (now (table .entry)))) (flatMap (namesOf (asked (now (set .entry)) (now (starts .entry))) Kind.Package) (take n (now (order .entry)))) ⌝ }
+{
+    let mut least = Least {
+        found: false,
+        entry: 0,
+    };
+    let mut k: usize = 0;
+    while k < n {
+        if order.len() <= k {
+            return least;
+        }
+        least = least_in(set, starts, order[k], b, table, count, least);
+        k += 1;
+    }
+    least
+}
+
+// The test of the packages of this block, which is that of the module at p: the least in byte order of those that one of the
+// modules at the positions has. The block's are put in order, and each of theirs is looked for.
+fn find_split_in(
+    set: &[u8],
+    starts: &[usize],
+    order: &[usize],
+    n: usize,
+    p: usize,
+    b: &[u8],
+) -> Halt
+    requires { ⌜ length (now set) ≤ 65535 ⌝ }
+    requires { ⌜ length (now b) ≤ 65535 ⌝ }
+    ensures { λ r. ⌜ r ≡ splitOf (asked (now (set .entry)) (now (starts .entry))) (take n (now (order .entry))) p (least (keep (hasNamed (asked (now (set .entry)) (now (starts .entry))) Kind.Package (take n (now (order .entry)))) (map nameOf (bodies Kind.Package (now (b .entry)))))) ⌝ }
+{
+    let mut table = [0usize; 16384];
+    let count = ordered_packages(b, &mut table);
+    let least = least_shared(set, starts, order, n, b, &table, count);
+    if least.found {
+        return refusal(set, starts, order, n, p, name_in(set, least.entry));
+    }
+    Halt::Open
+}
+
+// The test of the packages of the module at p, where those at the positions are resolved. The filter marks their packages, and
+// is left with this module's marked too: where none of them was marked before, no other module has one.
 pub fn find_split(
     set: &[u8],
     starts: &[usize],
     order: &[usize],
     n: usize,
-    filter: &[u64],
+    filter: &mut [u64],
     p: usize,
 ) -> Halt
     requires { ⌜ length (now set) ≤ 65535 ⌝ }
     requires { ⌜ length (now filter) ≡ 1024 ⌝ }
     requires { ⌜ Covers (asked (now set) (now starts)) Kind.Package (now filter) (take n (now order)) ⌝ }
     ensures { λ r. ⌜ r ≡ splitAt (asked (now (set .entry)) (now (starts .entry))) (take n (now (order .entry))) p ⌝ }
+    ensures { λ _. ⌜ MarkedAll (now (filter .entry)) (namesOf (asked (now (set .entry)) (now (starts .entry))) Kind.Package p) (now (filter .exit)) ⌝ }
 {
-    find_split_in(set, starts, order, n, filter, p, block(set, starts, p))
+    let b = block(set, starts, p);
+    if mark_names(filter, b, Kind::Package) {
+        return find_split_in(set, starts, order, n, p, b);
+    }
+    Halt::Open
 }
 
-// Whether this block provides a service that one of the modules at the positions uses.
+// Whether one of the modules from number `from` to `to` of the positions uses this service.
+fn is_used(
+    set: &[u8],
+    starts: &[usize],
+    order: &[usize],
+    from: usize,
+    to: usize,
+    name: &[u8],
+) -> bool
+    ensures { λ r. ⌜ r ≡ hasNamed (asked (now (set .entry)) (now (starts .entry))) Kind.Uses (drop from (take to (now (order .entry)))) (now (name .entry)) ⌝ }
+{
+    let mut k = from;
+    while k < to {
+        if order.len() <= k {
+            return false;
+        }
+        let i = order[k];
+        if has_named(block(set, starts, i), Kind::Uses, name) {
+            return true;
+        }
+        k += 1;
+    }
+    false
+}
+
+// Whether this block provides a service that one of these modules uses.
 fn provides_used(
     set: &[u8],
     starts: &[usize],
     order: &[usize],
-    n: usize,
-    filter: &[u64],
+    from: usize,
+    to: usize,
     b: &[u8],
 ) -> bool
-    requires { ⌜ length (now filter) ≡ 1024 ⌝ }
-    requires { ⌜ Covers (asked (now set) (now starts)) Kind.Uses (now filter) (take n (now order)) ⌝ }
-    ensures { λ r. ⌜ r ≡ any (hasNamed (asked (now (set .entry)) (now (starts .entry))) Kind.Uses (take n (now (order .entry)))) (map nameOf (bodies Kind.Provides (now (b .entry)))) ⌝ }
+    ensures { λ r. ⌜ r ≡ any (hasNamed (asked (now (set .entry)) (now (starts .entry))) Kind.Uses (drop from (take to (now (order .entry))))) (map nameOf (bodies Kind.Provides (now (b .entry)))) ⌝ }
 {
     let mut c = Cursor { at: 0 };
     loop {
         match c.next(b, Kind::Provides) {
             Next::Body { start, len, next } => {
-                if is_named(
-                    set,
-                    starts,
-                    order,
-                    n,
-                    filter,
-                    Kind::Uses,
-                    name_of(part(b, start, len)),
-                ) {
+                if is_used(set, starts, order, from, to, name_of(part(b, start, len))) {
                     return true;
                 }
                 c = next;
@@ -256,20 +303,18 @@ fn provides_used(
     }
 }
 
-// Whether the module at i provides such a service. The filter marks the services that are used.
+// Whether the module at i provides such a service.
 pub fn is_provider(
     set: &[u8],
     starts: &[usize],
     order: &[usize],
-    n: usize,
-    filter: &[u64],
+    from: usize,
+    to: usize,
     i: usize,
 ) -> bool
-    requires { ⌜ length (now filter) ≡ 1024 ⌝ }
-    requires { ⌜ Covers (asked (now set) (now starts)) Kind.Uses (now filter) (take n (now order)) ⌝ }
-    ensures { λ r. ⌜ r ≡ any (hasNamed (asked (now (set .entry)) (now (starts .entry))) Kind.Uses (take n (now (order .entry)))) (namesOf (asked (now (set .entry)) (now (starts .entry))) Kind.Provides i) ⌝ }
+    ensures { λ r. ⌜ r ≡ any (hasNamed (asked (now (set .entry)) (now (starts .entry))) Kind.Uses (drop from (take to (now (order .entry))))) (namesOf (asked (now (set .entry)) (now (starts .entry))) Kind.Provides i) ⌝ }
 {
-    provides_used(set, starts, order, n, filter, block(set, starts, i))
+    provides_used(set, starts, order, from, to, block(set, starts, i))
 }
 
 // Whether the body of an RQ requires this name and is not static.

@@ -9,6 +9,7 @@ ghost use Rattle.records.specs.Set.{checkSet, blockAt};
 ghost use Rattle.records.specs.Finder.{findName};
 ghost use Rattle.records.specs.declared.set.SetAnswer.the-variants.{Modules};
 ghost use Rattle.resolution.specs.Row.{holds};
+ghost use Rattle.resolution.specs.Lookup.{Lookup};
 ghost use Rattle.resolution.specs.Readability.{tableNames, memberOf, isNamed, requiredAt, directAt, othersAt, transitiveAt, unnamedFrom, edgeFrom, Below, ModuleReads, WithMore, Holding, WithEdges, RowSet, TransitiveGraph, ReadRows, ReadAdded, ReadsAdded, ReadEdges};
 use crate::reach::reachable_from;
 use crate::reach::set_edge;
@@ -23,7 +24,7 @@ use records::descriptor::is_transitive;
 use records::descriptor::name;
 use records::descriptor::required;
 use records::finder::Found;
-use records::finder::find;
+use records::index::find_in;
 use records::name::after_name;
 use records::name::name_of;
 use records::record::Cursor;
@@ -32,10 +33,18 @@ use records::record::Next;
 use records::set::block;
 
 // The member of this name.
-fn member(set: &[u8], starts: &[usize], count: usize, members: Row, name: &[u8]) -> Found
+fn member(
+    set: &[u8],
+    starts: &[usize],
+    count: usize,
+    index: &[u16],
+    members: Row,
+    name: &[u8],
+) -> Found
+    requires { ⌜ Lookup (now set) (now starts) count (now index) ⌝ }
     ensures { λ r. ⌜ r ≡ memberOf (members .words) (findName (tableNames (now (set .entry)) (now (starts .entry)) count) (now (name .entry)) 0) ⌝ }
 {
-    match find(set, starts, count, name) {
+    match find_in(set, starts, count, index, name) {
         Found::At(i) => {
             if has(members, i) {
                 return Found::At(i);
@@ -51,13 +60,15 @@ fn with_member(
     set: &[u8],
     starts: &[usize],
     count: usize,
+    index: &[u16],
     members: Row,
     row: Row,
     name: &[u8],
 ) -> Row
+    requires { ⌜ Lookup (now set) (now starts) count (now index) ⌝ }
     ensures { λ r. ⌜ WithMore (row .words) (isNamed (tableNames (now (set .entry)) (now (starts .entry)) count) (members .words) (now (name .entry))) (r .words) ⌝ }
 {
-    match member(set, starts, count, members, name) {
+    match member(set, starts, count, index, members, name) {
         Found::At(i) => with(row, i),
         Found::Nothing => row,
     }
@@ -78,10 +89,12 @@ fn required_members(
     set: &[u8],
     starts: &[usize],
     count: usize,
+    index: &[u16],
     members: Row,
     block: &[u8],
     only: bool,
 ) -> Row
+    requires { ⌜ Lookup (now set) (now starts) count (now index) ⌝ }
     ensures { λ r. ⌜ Holding (r .words) (requiredAt (tableNames (now (set .entry)) (now (starts .entry)) count) (members .words) only (descriptorOf (now (block .entry)) .requires)) ⌝ }
 {
     let mut row = empty();
@@ -92,7 +105,7 @@ fn required_members(
                 let body = part(block, start, len);
                 c = next;
                 if counts(only, body) {
-                    row = with_member(set, starts, count, members, row, required(body));
+                    row = with_member(set, starts, count, index, members, row, required(body));
                 }
             }
             Next::Nothing => {
@@ -103,14 +116,22 @@ fn required_members(
 }
 
 // The members that a block's module reads directly: those that it requires, and java.base (not for itself).
-fn direct_members(set: &[u8], starts: &[usize], count: usize, members: Row, block: &[u8]) -> Row
+fn direct_members(
+    set: &[u8],
+    starts: &[usize],
+    count: usize,
+    index: &[u16],
+    members: Row,
+    block: &[u8],
+) -> Row
+    requires { ⌜ Lookup (now set) (now starts) count (now index) ⌝ }
     ensures { λ r. ⌜ Holding (r .words) (directAt (tableNames (now (set .entry)) (now (starts .entry)) count) (members .words) (descriptorOf (now (block .entry)))) ⌝ }
 {
-    let row = required_members(set, starts, count, members, block, false);
+    let row = required_members(set, starts, count, index, members, block, false);
     if same(name(block), b"java.base") {
         return row;
     }
-    with_member(set, starts, count, members, row, b"java.base")
+    with_member(set, starts, count, index, members, row, b"java.base")
 }
 
 // The row with all members but p more.
@@ -132,11 +153,27 @@ fn with_others(row: Row, members: Row, p: usize) -> Row
 }
 
 // The members that the module at p requires transitively; none, where it is no member.
-fn transitive_row(set: &[u8], starts: &[usize], count: usize, members: Row, p: usize) -> Row
+fn transitive_row(
+    set: &[u8],
+    starts: &[usize],
+    count: usize,
+    index: &[u16],
+    members: Row,
+    p: usize,
+) -> Row
+    requires { ⌜ Lookup (now set) (now starts) count (now index) ⌝ }
     ensures { λ r. ⌜ Holding (r .words) (transitiveAt (tableNames (now (set .entry)) (now (starts .entry)) count) (members .words) (holds (members .words) p) (descriptorOf (blockAt (now (set .entry)) (now (starts .entry)) p))) ⌝ }
 {
     if has(members, p) {
-        return required_members(set, starts, count, members, block(set, starts, p), true);
+        return required_members(
+            set,
+            starts,
+            count,
+            index,
+            members,
+            block(set, starts, p),
+            true,
+        );
     }
     empty()
 }
@@ -146,16 +183,18 @@ fn read_row(
     set: &[u8],
     starts: &[usize],
     count: usize,
+    index: &[u16],
     members: Row,
     graph: &[u64],
     p: usize,
 ) -> Row
+    requires { ⌜ Lookup (now set) (now starts) count (now index) ⌝ }
     requires { ⌜ length (now graph) ≡ 1024 ⌝ }
     ensures { λ r. ⌜ ModuleReads (tableNames (now (set .entry)) (now (starts .entry)) count) (members .words) (now (graph .entry)) (descriptorOf (blockAt (now (set .entry)) (now (starts .entry)) p)) p (holds (r .words)) ⌝ }
 {
     if has(members, p) {
         let b = block(set, starts, p);
-        let direct = direct_members(set, starts, count, members, b);
+        let direct = direct_members(set, starts, count, index, members, b);
         let row = reachable_from(graph, direct);
         if is_automatic(b) {
             return with_others(row, members, p);
@@ -180,13 +219,21 @@ fn set_row(g: &mut [u64], i: usize, row: Row)
 }
 
 // The graph of the transitive requirements between members.
-fn set_transitive(set: &[u8], starts: &[usize], count: usize, members: Row, graph: &mut [u64])
+fn set_transitive(
+    set: &[u8],
+    starts: &[usize],
+    count: usize,
+    index: &[u16],
+    members: Row,
+    graph: &mut [u64],
+)
+    requires { ⌜ Lookup (now set) (now starts) count (now index) ⌝ }
     requires { ⌜ length (now graph) ≡ 1024 ⌝ }
     ensures { λ _. ⌜ TransitiveGraph (now (set .entry)) (now (starts .entry)) count (members .words) (now (graph .exit)) ⌝ }
 {
     let mut k: usize = 0;
     while k < 256 {
-        let row = transitive_row(set, starts, count, members, k);
+        let row = transitive_row(set, starts, count, index, members, k);
         set_row(graph, k, row);
         k += 1;
     }
@@ -197,17 +244,19 @@ fn set_reads(
     set: &[u8],
     starts: &[usize],
     count: usize,
+    index: &[u16],
     members: Row,
     graph: &[u64],
     reads: &mut [u64],
 )
+    requires { ⌜ Lookup (now set) (now starts) count (now index) ⌝ }
     requires { ⌜ length (now graph) ≡ 1024 ⌝ }
     requires { ⌜ length (now reads) ≡ 1024 ⌝ }
     ensures { λ _. ⌜ ReadRows (now (set .entry)) (now (starts .entry)) count (members .words) (now (graph .entry)) (now (reads .exit)) ⌝ }
 {
     let mut k: usize = 0;
     while k < 256 {
-        let row = read_row(set, starts, count, members, graph, k);
+        let row = read_row(set, starts, count, index, members, graph, k);
         set_row(reads, k, row);
         k += 1;
     }
@@ -256,17 +305,19 @@ fn add_read(
     set: &[u8],
     starts: &[usize],
     count: usize,
+    index: &[u16],
     members: Row,
     body: &[u8],
     unnamed: Row,
     reads: &mut [u64],
 ) -> Row
+    requires { ⌜ Lookup (now set) (now starts) count (now index) ⌝ }
     requires { ⌜ length (now reads) ≡ 1024 ⌝ }
     ensures { λ r. ⌜ ReadAdded (tableNames (now (set .entry)) (now (starts .entry)) count) (members .words) (readOf (now (body .entry))) (now (reads .entry)) (now (reads .exit)) (unnamed .words) (r .words) ⌝ }
 {
     let target = name_of(after_name(body));
-    let from = member(set, starts, count, members, name_of(body));
-    let to = member(set, starts, count, members, target);
+    let from = member(set, starts, count, index, members, name_of(body));
+    let to = member(set, starts, count, index, members, target);
     set_read(from, to, reads);
     with_unnamed(from, target, unnamed)
 }
@@ -277,9 +328,11 @@ fn add_reads(
     request: &[u8],
     starts: &[usize],
     count: usize,
+    index: &[u16],
     members: Row,
     reads: &mut [u64],
 ) -> Row
+    requires { ⌜ Lookup (now set) (now starts) count (now index) ⌝ }
     requires { ⌜ length (now reads) ≡ 1024 ⌝ }
     ensures { λ r. ⌜ ReadsAdded (tableNames (now (set .entry)) (now (starts .entry)) count) (members .words) (requestOf (now (request .entry)) .addReads) (now (reads .entry)) (now (reads .exit)) (r .words) ⌝ }
 {
@@ -290,7 +343,7 @@ fn add_reads(
             Next::Body { start, len, next } => {
                 let body = part(request, start, len);
                 c = next;
-                unnamed = add_read(set, starts, count, members, body, unnamed, reads);
+                unnamed = add_read(set, starts, count, index, members, body, unnamed, reads);
             }
             Next::Nothing => {
                 return unnamed;
@@ -305,15 +358,17 @@ pub fn read_edges(
     request: &[u8],
     starts: &[usize],
     count: usize,
+    index: &[u16],
     members: Row,
     reads: &mut [u64],
 ) -> Row
     requires { ⌜ checkSet (now set) ≡ record { answer = Modules count; starts = now starts } ⌝ }
+    requires { ⌜ Lookup (now set) (now starts) count (now index) ⌝ }
     requires { ⌜ length (now reads) ≡ 1024 ⌝ }
     ensures { λ r. ⌜ ReadEdges (now (set .entry)) (now (request .entry)) (members .words) (now (reads .exit)) (r .words) ⌝ }
 {
     let mut graph = [0u64; 1024];
-    set_transitive(set, starts, count, members, &mut graph);
-    set_reads(set, starts, count, members, &graph, reads);
-    add_reads(set, request, starts, count, members, reads)
+    set_transitive(set, starts, count, index, members, &mut graph);
+    set_reads(set, starts, count, index, members, &graph, reads);
+    add_reads(set, request, starts, count, index, members, reads)
 }

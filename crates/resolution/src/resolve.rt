@@ -14,6 +14,7 @@ use crate::configure::refuse;
 use crate::resolver::Halt;
 use crate::roots::resolve_order;
 use records::error::ModuleError;
+use records::index::add_all;
 use records::request::check;
 use records::set::SetAnswer;
 
@@ -34,13 +35,15 @@ fn resolve_checked(set: &[u8], request: &[u8], starts: &[usize], count: usize) -
     requires { ⌜ length (now request) ≤ 65535 ⌝ }
     ensures { λ r. ⌜ r ≡ told (now (set .entry)) (now (request .entry)) (resolution (modules (now (set .entry))) (requestOf (now (request .entry)))) ⌝ }
 {
+    let mut index = [0u16; 512];
+    add_all(set, starts, count, &mut index);
     let row = permitted(set, request, starts, count);
-    let done = resolve_order(set, request, starts, count, row);
+    let done = resolve_order(set, request, starts, count, row, &index);
     let order = done.order;
     let queue = done.queue;
     let halt = queue.halt;
     match halt {
-        Halt::Open => configure(set, request, starts, count, &order, queue.tail),
+        Halt::Open => configure(set, request, starts, count, &index, &order, queue.tail),
         Halt::Stop(e) => refuse(e),
         Halt::Refused(e) => refuse(e),
     }

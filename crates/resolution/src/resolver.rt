@@ -5,9 +5,9 @@ ghost use Prim.Native.Nat.{suc, _-_, _≤_, _<_};
 ghost use lib.Dec.{eqb};
 ghost use lib.ListN.{length, getD, drop};
 ghost use Rattle.records.specs.Record.{records};
-ghost use Rattle.resolution.specs.Resolver.{inputsOf, want as wantOf, wantRecord, wantUnfound, kindFor, Within, lineAt, queued, queuedAt, queueIn, advancedAt, handleAt, isOpen, runAt, Ready, Moved};
+ghost use Rattle.resolution.specs.Resolver.{inputsOf, want as wantOf, wantRecord, wantUnfound, kindFor, Within, lineAt, queued, queuedAt, queueIn, advancedAt, handleAt, isOpen, isDone, runAt, Ready, Moved};
+ghost use Rattle.resolution.specs.Lookup.{Lookup};
 ghost use Rattle.resolution.specs.Runs.{Running, Ran};
-use crate::filter::mark_names;
 use crate::modules::end_of;
 use crate::modules::find_split;
 use crate::modules::is_met_before;
@@ -22,13 +22,12 @@ use records::descriptor::required;
 use records::error::Input;
 use records::error::ModuleError;
 use records::finder::Found;
-use records::finder::find;
+use records::index::find_in;
 use records::name::name_of;
 use records::record::Cursor;
 use records::record::Kind;
 use records::record::Next;
 use records::request::is_permitted;
-use records::set::block;
 use records::set::entry;
 
 // What ends the queue.
@@ -101,14 +100,16 @@ pub fn want(
     starts: &[usize],
     old: &[usize],
     phase: Phase,
+    index: &[u16],
     name: &[u8],
     optional: bool,
     error: ModuleError,
 ) -> Wanted
+    requires { ⌜ Lookup (now set) (now starts) (phase .count) (now index) ⌝ }
     ensures { λ r. ⌜ r ≡ wantOf (inputsOf (now (set .entry)) (now (request .entry)) (now (starts .entry)) (now (old .entry)) phase) (now (name .entry)) optional error ⌝ }
     ensures { λ r. ⌜ Within (phase .count) r ⌝ }
 {
-    match find(set, starts, phase.count, name) {
+    match find_in(set, starts, phase.count, index, name) {
         Found::At(i) => {
             let words = phase.permitted;
             if has(Row { words }, i) {
@@ -132,10 +133,12 @@ fn want_record(
     starts: &[usize],
     old: &[usize],
     phase: Phase,
+    index: &[u16],
     input: Input,
     body: &[u8],
     start: usize,
 ) -> Wanted
+    requires { ⌜ Lookup (now set) (now starts) (phase .count) (now index) ⌝ }
     requires { ⌜ start ≤ 65535 ⌝ }
     ensures { λ r. ⌜ r ≡ wantRecord (inputsOf (now (set .entry)) (now (request .entry)) (now (starts .entry)) (now (old .entry)) phase) input (now (body .entry)) start ⌝ }
     ensures { λ r. ⌜ Within (phase .count) r ⌝ }
@@ -150,6 +153,7 @@ fn want_record(
                 starts,
                 old,
                 phase,
+                index,
                 name,
                 is_static(body),
                 error,
@@ -158,7 +162,7 @@ fn want_record(
         Input::Request => {
             let name = name_of(body);
             let error = ModuleError::ModuleNotFound(Input::Request, start + 1, name.len());
-            want(set, request, starts, old, phase, name, false, error)
+            want(set, request, starts, old, phase, index, name, false, error)
         }
         Input::Packages => Wanted::Pass,
     }
@@ -221,19 +225,33 @@ pub fn enqueue(order: &mut [usize], q: Queue, count: usize, wanted: Wanted) -> Q
     }
 }
 
-// The names that the records of source from `at` on queue.
+// Nothing ends the queue.
+pub fn is_done(q: Queue) -> bool
+    ensures { λ r. ⌜ r ≡ isDone (q .halt) ⌝ }
+{
+    let halt = q.halt;
+    match halt {
+        Halt::Open => true,
+        Halt::Stop(_) => false,
+        Halt::Refused(_) => false,
+    }
+}
+
+// The names that the records of source from `at` on queue, until something ends the queue.
 pub fn queue_records(
     set: &[u8],
     request: &[u8],
     starts: &[usize],
     old: &[usize],
     phase: Phase,
+    index: &[u16],
     input: Input,
     source: &[u8],
     at: usize,
     order: &mut [usize],
     q: Queue,
 ) -> Queue
+    requires { ⌜ Lookup (now set) (now starts) (phase .count) (now index) ⌝ }
     requires { ⌜ Ready (phase .count) (now order) q ⌝ }
     requires { ⌜ length (now source) ≤ 65535 ⌝ }
     ensures { λ r. ⌜ Moved (phase .count) (now (order .exit)) r (queueIn (inputsOf (now (set .entry)) (now (request .entry)) (now (starts .entry)) (now (old .entry)) phase) input at (records (drop at (now (source .entry)))) (lineAt (now (order .entry)) q)) ⌝ }
@@ -241,7 +259,7 @@ pub fn queue_records(
     let kind = kind_for(input);
     let mut c = Cursor { at };
     let mut line = q;
-    loop {
+    while is_done(line) {
         match c.next(source, kind) {
             Next::Body { start, len, next } => {
                 let wanted = want_record(
@@ -250,6 +268,7 @@ pub fn queue_records(
                     starts,
                     old,
                     phase,
+                    index,
                     input,
                     part(source, start, len),
                     start,
@@ -262,6 +281,7 @@ pub fn queue_records(
             }
         }
     }
+    line
 }
 
 // The module at the head is resolved, and its requirements are queued.
@@ -271,17 +291,18 @@ fn advance(
     starts: &[usize],
     old: &[usize],
     phase: Phase,
+    index: &[u16],
     order: &mut [usize],
-    packages: &mut [u64],
     q: Queue,
 ) -> Queue
-    requires { ⌜ Running (phase .count) (now set) (now starts) (now order) (now packages) q ⌝ }
+    requires { ⌜ Lookup (now set) (now starts) (phase .count) (now index) ⌝ }
+    requires { ⌜ length (now set) ≤ 65535 ⌝ }
+    requires { ⌜ Ready (phase .count) (now order) q ⌝ }
     requires { ⌜ q .head < q .tail ⌝ }
-    ensures { λ r. ⌜ Ran (phase .count) (now (set .entry)) (now (starts .entry)) (now (order .exit)) (now (packages .exit)) r (advancedAt (inputsOf (now (set .entry)) (now (request .entry)) (now (starts .entry)) (now (old .entry)) phase) (lineAt (now (order .entry)) q) (getD (now (order .entry)) (q .head) 0)) ⌝ }
+    ensures { λ r. ⌜ Moved (phase .count) (now (order .exit)) r (advancedAt (inputsOf (now (set .entry)) (now (request .entry)) (now (starts .entry)) (now (old .entry)) phase) (lineAt (now (order .entry)) q) (getD (now (order .entry)) (q .head) 0)) ⌝ }
 {
     let at = q.head;
     let p = order[at];
-    mark_names(packages, block(set, starts, p), Kind::Package);
     let source = head(set, end_of(starts, p));
     let halt = q.halt;
     let next = Queue {
@@ -295,6 +316,7 @@ fn advance(
         starts,
         old,
         phase,
+        index,
         Input::Set,
         source,
         entry(starts, p),
@@ -310,10 +332,12 @@ fn handle(
     starts: &[usize],
     old: &[usize],
     phase: Phase,
+    index: &[u16],
     order: &mut [usize],
     packages: &mut [u64],
     q: Queue,
 ) -> Queue
+    requires { ⌜ Lookup (now set) (now starts) (phase .count) (now index) ⌝ }
     requires { ⌜ Running (phase .count) (now set) (now starts) (now order) (now packages) q ⌝ }
     requires { ⌜ q .head < q .tail ⌝ }
     ensures { λ r. ⌜ Ran (phase .count) (now (set .entry)) (now (starts .entry)) (now (order .exit)) (now (packages .exit)) r (handleAt (inputsOf (now (set .entry)) (now (request .entry)) (now (starts .entry)) (now (old .entry)) phase) (lineAt (now (order .entry)) q)) ⌝ }
@@ -321,7 +345,7 @@ fn handle(
     let at = q.head;
     let p = order[at];
     match find_split(set, starts, order, at, packages, p) {
-        Halt::Open => advance(set, request, starts, old, phase, order, packages, q),
+        Halt::Open => advance(set, request, starts, old, phase, index, order, q),
         Halt::Stop(e) => Queue {
             head: at,
             tail: q.tail,
@@ -354,17 +378,29 @@ pub fn run(
     starts: &[usize],
     old: &[usize],
     phase: Phase,
+    index: &[u16],
     order: &mut [usize],
     packages: &mut [u64],
     q: Queue,
 ) -> Queue
+    requires { ⌜ Lookup (now set) (now starts) (phase .count) (now index) ⌝ }
     requires { ⌜ Running (phase .count) (now set) (now starts) (now order) (now packages) q ⌝ }
     ensures { λ r. ⌜ Ran (phase .count) (now (set .entry)) (now (starts .entry)) (now (order .exit)) (now (packages .exit)) r (runAt (inputsOf (now (set .entry)) (now (request .entry)) (now (starts .entry)) (now (old .entry)) phase) (suc (phase .count) - q .head) (lineAt (now (order .entry)) q)) ⌝ }
     ensures { λ r. ⌜ (isOpen (r .halt) && not (eqb (r .head) (r .tail))) ≡ false ⌝ }
 {
     let mut line = q;
     while goes_on(line) {
-        line = handle(set, request, starts, old, phase, order, packages, line);
+        line = handle(
+            set,
+            request,
+            starts,
+            old,
+            phase,
+            index,
+            order,
+            packages,
+            line,
+        );
     }
     line
 }

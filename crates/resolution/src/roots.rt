@@ -3,6 +3,7 @@ ghost use mathlib.Core.Path.{_≡_};
 ghost use Prim.Native.Nat.{_≤_};
 ghost use lib.ListN.{length};
 ghost use Rattle.resolution.specs.Resolver.{inputsOf, lineAt, frontAt, rootsAt, firstAt, startOn, resolveAt, Fresh, Moved};
+ghost use Rattle.resolution.specs.Lookup.{Lookup};
 ghost use Rattle.resolution.specs.Runs.{Ran};
 use crate::resolver::Halt;
 use crate::resolver::Phase;
@@ -19,7 +20,15 @@ use records::error::ModuleError;
 use records::record::Kind;
 
 // java.base in front unless it is a root.
-fn front(set: &[u8], request: &[u8], starts: &[usize], phase: Phase, order: &mut [usize]) -> Queue
+fn front(
+    set: &[u8],
+    request: &[u8],
+    starts: &[usize],
+    phase: Phase,
+    index: &[u16],
+    order: &mut [usize],
+) -> Queue
+    requires { ⌜ Lookup (now set) (now starts) (phase .count) (now index) ⌝ }
     requires { ⌜ Fresh (phase .count) (now order) ⌝ }
     ensures { λ r. ⌜ Moved (phase .count) (now (order .exit)) r (frontAt (inputsOf (now (set .entry)) (now (request .entry)) (now (starts .entry)) (now (starts .entry)) phase)) ⌝ }
 {
@@ -38,6 +47,7 @@ fn front(set: &[u8], request: &[u8], starts: &[usize], phase: Phase, order: &mut
         starts,
         starts,
         phase,
+        index,
         b"java.base",
         false,
         error,
@@ -51,19 +61,22 @@ fn resolve_roots(
     request: &[u8],
     starts: &[usize],
     phase: Phase,
+    index: &[u16],
     order: &mut [usize],
 ) -> Queue
+    requires { ⌜ Lookup (now set) (now starts) (phase .count) (now index) ⌝ }
     requires { ⌜ Fresh (phase .count) (now order) ⌝ }
     requires { ⌜ length (now request) ≤ 65535 ⌝ }
     ensures { λ r. ⌜ Moved (phase .count) (now (order .exit)) r (rootsAt (inputsOf (now (set .entry)) (now (request .entry)) (now (starts .entry)) (now (starts .entry)) phase)) ⌝ }
 {
-    let q = front(set, request, starts, phase, order);
+    let q = front(set, request, starts, phase, index, order);
     queue_records(
         set,
         request,
         starts,
         starts,
         phase,
+        index,
         Input::Request,
         request,
         0,
@@ -78,17 +91,29 @@ fn resolve_first(
     request: &[u8],
     starts: &[usize],
     phase: Phase,
+    index: &[u16],
     order: &mut [usize],
     packages: &mut [u64],
 ) -> Queue
+    requires { ⌜ Lookup (now set) (now starts) (phase .count) (now index) ⌝ }
     requires { ⌜ Fresh (phase .count) (now order) ⌝ }
     requires { ⌜ length (now request) ≤ 65535 ⌝ }
     requires { ⌜ length (now set) ≤ 65535 ⌝ }
     requires { ⌜ length (now packages) ≡ 1024 ⌝ }
     ensures { λ r. ⌜ Ran (phase .count) (now (set .entry)) (now (starts .entry)) (now (order .exit)) (now (packages .exit)) r (firstAt (inputsOf (now (set .entry)) (now (request .entry)) (now (starts .entry)) (now (starts .entry)) phase)) ⌝ }
 {
-    let q = resolve_roots(set, request, starts, phase, order);
-    run(set, request, starts, starts, phase, order, packages, q)
+    let q = resolve_roots(set, request, starts, phase, index, order);
+    run(
+        set,
+        request,
+        starts,
+        starts,
+        phase,
+        index,
+        order,
+        packages,
+        q,
+    )
 }
 
 // The modules resolved, in order: the first `queue.tail` positions.
@@ -104,8 +129,9 @@ pub fn resolve_order(
     starts: &[usize],
     count: usize,
     permitted: Row,
+    index: &[u16],
 ) -> Ordered
-    requires { ⌜ count ≤ 256 ⌝ }
+    requires { ⌜ Lookup (now set) (now starts) count (now index) ⌝ }
     requires { ⌜ length (now request) ≤ 65535 ⌝ }
     requires { ⌜ length (now set) ≤ 65535 ⌝ }
     ensures { λ r. ⌜ lineAt (r .order) (r .queue) ≡ resolveAt (startOn (now (set .entry)) (now (request .entry)) count (now (starts .entry)) (permitted .words)) ⌝ }
@@ -119,7 +145,15 @@ pub fn resolve_order(
         in_round: false,
         before: 0,
     };
-    let first = resolve_first(set, request, starts, phase, &mut order, &mut packages);
+    let first = resolve_first(
+        set,
+        request,
+        starts,
+        phase,
+        index,
+        &mut order,
+        &mut packages,
+    );
     let old = order;
     let next = Phase {
         count,
@@ -133,6 +167,7 @@ pub fn resolve_order(
         starts,
         &old,
         next,
+        index,
         &mut order,
         &mut packages,
         first,

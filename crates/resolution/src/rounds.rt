@@ -1,65 +1,209 @@
 // The rounds: the providers of services that resolved modules use, and what they lead to.
 ghost use mathlib.Core.Path.{_≡_};
-ghost use mathlib.Core.List.{[]};
+ghost use mathlib.Core.Bool.{true};
+ghost use mathlib.Core.List.{[], map};
 ghost use Prim.Native.Nat.{suc, _≤_, _<_};
-ghost use lib.ListN.{length, take};
-ghost use Rattle.resolution.specs.Resolver.{inputsOf, lineAt, isProviderAt, offeredAt, provideAt, isDone, roundAt, roundsAt, Ready, Moved};
-ghost use Rattle.resolution.specs.Runs.{Running, Used, Between, Rounded};
-use crate::filter::mark_names;
+ghost use lib.ListN.{length, take, drop};
+ghost use Rattle.records.specs.Name.{memName, nameOf};
+ghost use Rattle.records.specs.Order.{nameIn, isOrdered};
+ghost use Rattle.records.specs.Record.{bodies};
+ghost use Rattle.records.specs.declared.record.Kind.the-variants as Kind;
+ghost use Rattle.resolution.specs.Lists.{any};
+ghost use Rattle.resolution.specs.Resolver.{inputsOf, namesOf, hasNamed, lineAt, pickLine, queued, isProviderAt, offeredAt, provideAt, isDone, roundAt, roundsAt, Moved};
+ghost use Rattle.resolution.specs.Filter.{asked};
+ghost use Rattle.resolution.specs.Lookup.{Lookup};
+ghost use Rattle.resolution.specs.Runs.{Running, Added, Told, Unbound, Binding, Between, Rounded};
+ghost use Rattle.resolution.specs.declared.resolver.Wanted.the-variants as Wanted;
+use crate::modules::end_of;
 use crate::modules::is_one_of;
 use crate::modules::is_provider;
-use crate::resolver::Halt;
 use crate::resolver::Phase;
 use crate::resolver::Queue;
 use crate::resolver::Wanted;
 use crate::resolver::enqueue;
+use crate::resolver::is_done;
 use crate::resolver::run;
 use crate::row::Row;
 use crate::row::has;
+use records::bytes::head;
+use records::bytes::part;
+use records::name::name_of;
+use records::order::contains;
+use records::order::insert;
+use records::record::Cursor;
 use records::record::Kind;
+use records::record::Next;
 use records::set::block;
+use records::set::entry;
 
-// The module at i is permitted and provides a service that one of the first n uses.
+// How many services a table tells, and whether they are all that were to be put there.
+pub struct Services {
+    pub count: usize,
+    pub all: bool,
+}
+
+// Puts the services that the records of the set from `from` up to `to` use in order into the table, as far as it has room.
+fn add_uses(set: &[u8], from: usize, to: usize, table: &mut [usize], services: Services) -> Services
+    requires { ⌜ length (now set) ≤ 65535 ⌝ }
+    requires { ⌜ services .count ≤ length (now table) ⌝ }
+    requires { ⌜ isOrdered (map (nameIn (now set)) (take (services .count) (now table))) ≡ true ⌝ }
+    ensures { λ r. ⌜ Added (now (set .entry)) (drop from (take to (now (set .entry)))) (now (table .entry)) services (now (table .exit)) r ⌝ }
+{
+    let source = head(set, to);
+    let mut c = Cursor { at: from };
+    let mut count = services.count;
+    loop {
+        match c.next(source, Kind::Uses) {
+            Next::Body { start, len, next } => {
+                if table.len() <= count {
+                    return Services { count, all: false };
+                }
+                let name = name_of(part(source, start, len));
+                count = insert(set, table, count, (start + 1) * 65536 + name.len());
+                c = next;
+            }
+            Next::Nothing => {
+                let all = services.all;
+                return Services { count, all };
+            }
+        }
+    }
+}
+
+// Puts the services that the modules from number `from` to `to` of the order use in order into the table, as far as it has room.
+fn order_uses(
+    set: &[u8],
+    starts: &[usize],
+    order: &[usize],
+    from: usize,
+    to: usize,
+    table: &mut [usize],
+) -> Services
+    requires { ⌜ length (now set) ≤ 65535 ⌝ }
+    requires { ⌜ to ≤ length (now order) ⌝ }
+    ensures { λ r. ⌜ Told (now (set .entry)) (now (starts .entry)) (now (order .entry)) from to (now (table .exit)) r ⌝ }
+{
+    let mut services = Services {
+        count: 0,
+        all: true,
+    };
+    let mut k = from;
+    while k < to {
+        let i = order[k];
+        services = add_uses(set, entry(starts, i), end_of(starts, i), table, services);
+        k += 1;
+    }
+    services
+}
+
+// Whether this block provides a service of the table.
+fn provides_one(set: &[u8], table: &[usize], count: usize, b: &[u8]) -> bool
+    requires { ⌜ count ≤ length (now table) ⌝ }
+    requires { ⌜ isOrdered (map (nameIn (now set)) (take count (now table))) ≡ true ⌝ }
+    ensures { λ r. ⌜ r ≡ any (λ x. memName x (map (nameIn (now (set .entry))) (take count (now (table .entry))))) (map nameOf (bodies Kind.Provides (now (b .entry)))) ⌝ }
+{
+    let mut c = Cursor { at: 0 };
+    loop {
+        match c.next(b, Kind::Provides) {
+            Next::Body { start, len, next } => {
+                if contains(set, table, count, name_of(part(b, start, len))) {
+                    return true;
+                }
+                c = next;
+            }
+            Next::Nothing => {
+                return false;
+            }
+        }
+    }
+}
+
+// Whether the module at i provides a service that one of the modules from number `from` to `to` uses. The table tells these services;
+// where it had no room for all, the modules are asked.
+fn provides_new(
+    set: &[u8],
+    starts: &[usize],
+    order: &[usize],
+    from: usize,
+    to: usize,
+    table: &[usize],
+    services: Services,
+    i: usize,
+) -> bool
+    requires { ⌜ Told (now set) (now starts) (now order) from to (now table) services ⌝ }
+    ensures { λ r. ⌜ r ≡ any (hasNamed (asked (now (set .entry)) (now (starts .entry))) Kind.Uses (drop from (take to (now (order .entry))))) (namesOf (asked (now (set .entry)) (now (starts .entry))) Kind.Provides i) ⌝ }
+{
+    if services.all {
+        return provides_one(set, table, services.count, block(set, starts, i));
+    }
+    is_provider(set, starts, order, from, to, i)
+}
+
+// The module at i is permitted and provides such a service.
 fn is_bound(
     set: &[u8],
     starts: &[usize],
     phase: Phase,
     order: &[usize],
-    n: usize,
-    uses: &[u64],
+    from: usize,
+    to: usize,
+    table: &[usize],
+    services: Services,
     i: usize,
 ) -> bool
-    requires { ⌜ Used (now set) (now starts) (now order) (now uses) n ⌝ }
-    ensures { λ r. ⌜ r ≡ isProviderAt (inputsOf (now (set .entry)) [] (now (starts .entry)) [] phase) (take n (now (order .entry))) i ⌝ }
+    requires { ⌜ Told (now set) (now starts) (now order) from to (now table) services ⌝ }
+    ensures { λ r. ⌜ r ≡ isProviderAt (inputsOf (now (set .entry)) [] (now (starts .entry)) [] phase) (drop from (take to (now (order .entry)))) i ⌝ }
 {
     let words = phase.permitted;
     if has(Row { words }, i) {
-        let bound = is_provider(set, starts, order, n, uses, i);
+        let bound = provides_new(set, starts, order, from, to, table, services, i);
         return bound;
     }
     false
 }
 
-// The module at i is queued, if it provides such a service and is not there.
+// The module at i is to be queued: it provides such a service and is not there. The providers of services that the modules before
+// number `from` use are there.
+fn is_due(
+    set: &[u8],
+    starts: &[usize],
+    phase: Phase,
+    order: &[usize],
+    from: usize,
+    to: usize,
+    table: &[usize],
+    services: Services,
+    q: Queue,
+    i: usize,
+) -> bool
+    requires { ⌜ Binding phase (now set) (now starts) (now order) from to (now table) services q ⌝ }
+    requires { ⌜ i < phase .count ⌝ }
+    ensures { λ r. ⌜ offeredAt (inputsOf (now (set .entry)) [] (now (starts .entry)) [] phase) (take to (now (order .entry))) i (lineAt (now (order .entry)) q) ≡ pickLine r (queued (Wanted.Add i) (lineAt (now (order .entry)) q)) (lineAt (now (order .entry)) q) ⌝ }
+{
+    if is_one_of(order, q.tail, i) {
+        return false;
+    }
+    is_bound(set, starts, phase, order, from, to, table, services, i)
+}
+
+// The module at i is queued, if it is to be.
 fn offer(
     set: &[u8],
     starts: &[usize],
     phase: Phase,
     order: &mut [usize],
-    n: usize,
-    uses: &[u64],
+    from: usize,
+    to: usize,
+    table: &[usize],
+    services: Services,
     q: Queue,
     i: usize,
 ) -> Queue
-    requires { ⌜ Ready (phase .count) (now order) q ⌝ }
-    requires { ⌜ Used (now set) (now starts) (now order) (now uses) n ⌝ }
+    requires { ⌜ Binding phase (now set) (now starts) (now order) from to (now table) services q ⌝ }
     requires { ⌜ i < phase .count ⌝ }
-    ensures { λ r. ⌜ Moved (phase .count) (now (order .exit)) r (offeredAt (inputsOf (now (set .entry)) [] (now (starts .entry)) [] phase) (take n (now (order .entry))) i (lineAt (now (order .entry)) q)) ⌝ }
+    ensures { λ r. ⌜ Moved (phase .count) (now (order .exit)) r (offeredAt (inputsOf (now (set .entry)) [] (now (starts .entry)) [] phase) (take to (now (order .entry))) i (lineAt (now (order .entry)) q)) ⌝ }
 {
-    if is_one_of(order, q.tail, i) {
-        return q;
-    }
-    if is_bound(set, starts, phase, order, n, uses, i) {
+    if is_due(set, starts, phase, order, from, to, table, services, q, i) {
         return enqueue(order, q, phase.count, Wanted::Add(i));
     }
     q
@@ -71,75 +215,50 @@ fn provide(
     starts: &[usize],
     phase: Phase,
     order: &mut [usize],
-    uses: &[u64],
+    from: usize,
+    table: &[usize],
+    services: Services,
     q: Queue,
 ) -> Queue
-    requires { ⌜ Ready (phase .count) (now order) q ⌝ }
-    requires { ⌜ Used (now set) (now starts) (now order) (now uses) (q .head) ⌝ }
+    requires { ⌜ Binding phase (now set) (now starts) (now order) from (q .head) (now table) services q ⌝ }
     ensures { λ r. ⌜ Moved (phase .count) (now (order .exit)) r (provideAt (inputsOf (now (set .entry)) [] (now (starts .entry)) [] phase) (lineAt (now (order .entry)) q)) ⌝ }
 {
-    let n = q.head;
+    let to = q.head;
     let mut i = 0;
     let mut line = q;
     while i < phase.count {
-        line = offer(set, starts, phase, order, n, uses, line, i);
+        line = offer(
+            set,
+            starts,
+            phase,
+            order,
+            from,
+            to,
+            table,
+            services,
+            line,
+            i,
+        );
         i += 1;
     }
     line
 }
 
-// Marks the services that the modules from number `from` to `to` use.
-fn mark_uses(
-    set: &[u8],
-    starts: &[usize],
-    order: &[usize],
-    from: usize,
-    to: usize,
-    uses: &mut [u64],
-)
-    requires { ⌜ Used (now set) (now starts) (now order) (now uses) from ⌝ }
-    requires { ⌜ from ≤ to ⌝ }
-    requires { ⌜ to ≤ length (now order) ⌝ }
-    ensures { λ _. ⌜ Used (now (set .entry)) (now (starts .entry)) (now (order .entry)) (now (uses .exit)) to ⌝ }
-{
-    let mut k = from;
-    while k < to {
-        let i = order[k];
-        mark_names(uses, block(set, starts, i), Kind::Uses);
-        k += 1;
-    }
-}
-
-// Nothing ends the queue.
-fn is_done(q: Queue) -> bool
-    ensures { λ r. ⌜ r ≡ isDone (q .halt) ⌝ }
-{
-    let halt = q.halt;
-    match halt {
-        Halt::Open => true,
-        Halt::Stop(_) => false,
-        Halt::Refused(_) => false,
-    }
-}
-
-// The providers of a round are queued. The uses of the first `marked` modules were marked before.
+// The providers of a round are queued. Those of services that the first `bound` modules use are there.
 fn bind(
     set: &[u8],
     starts: &[usize],
     phase: Phase,
     order: &mut [usize],
-    uses: &mut [u64],
-    marked: usize,
+    table: &mut [usize],
+    bound: usize,
     q: Queue,
 ) -> Queue
-    requires { ⌜ Ready (phase .count) (now order) q ⌝ }
-    requires { ⌜ Used (now set) (now starts) (now order) (now uses) marked ⌝ }
-    requires { ⌜ marked ≤ q .head ⌝ }
+    requires { ⌜ Unbound phase (now set) (now starts) (now order) bound q ⌝ }
     ensures { λ r. ⌜ Moved (phase .count) (now (order .exit)) r (provideAt (inputsOf (now (set .entry)) [] (now (starts .entry)) [] phase) (lineAt (now (order .entry)) q)) ⌝ }
-    ensures { λ r. ⌜ Used (now (set .entry)) (now (starts .entry)) (now (order .exit)) (now (uses .exit)) (q .head) ⌝ }
 {
-    mark_uses(set, starts, order, marked, q.head, uses);
-    provide(set, starts, phase, order, uses, q)
+    let services = order_uses(set, starts, order, bound, q.head, table);
+    provide(set, starts, phase, order, bound, table, services, q)
 }
 
 // One round: the providers, then the queue.
@@ -149,17 +268,30 @@ fn round(
     starts: &[usize],
     old: &[usize],
     phase: Phase,
+    index: &[u16],
     order: &mut [usize],
     packages: &mut [u64],
-    uses: &mut [u64],
-    marked: usize,
+    table: &mut [usize],
+    bound: usize,
     q: Queue,
 ) -> Queue
-    requires { ⌜ Between (phase .count) (now set) (now starts) (now order) (now packages) (now uses) marked q ⌝ }
-    ensures { λ r. ⌜ Rounded (phase .count) (now (set .entry)) (now (starts .entry)) (now (order .exit)) (now (packages .exit)) (now (uses .exit)) (q .head) r (roundAt (inputsOf (now (set .entry)) (now (request .entry)) (now (starts .entry)) (now (old .entry)) phase) (lineAt (now (order .entry)) q)) ⌝ }
+    requires { ⌜ Lookup (now set) (now starts) (phase .count) (now index) ⌝ }
+    requires { ⌜ Between phase (now set) (now starts) (now order) (now packages) bound q ⌝ }
+    requires { ⌜ isDone (q .halt) ≡ true ⌝ }
+    ensures { λ r. ⌜ Rounded phase (now (set .entry)) (now (starts .entry)) (now (order .exit)) (now (packages .exit)) (q .head) r (roundAt (inputsOf (now (set .entry)) (now (request .entry)) (now (starts .entry)) (now (old .entry)) phase) (lineAt (now (order .entry)) q)) ⌝ }
 {
-    let next = bind(set, starts, phase, order, uses, marked, q);
-    run(set, request, starts, old, phase, order, packages, next)
+    let next = bind(set, starts, phase, order, table, bound, q);
+    run(
+        set,
+        request,
+        starts,
+        old,
+        phase,
+        index,
+        order,
+        packages,
+        next,
+    )
 }
 
 // Round after round, until none finds a provider or there is a refusal.
@@ -169,16 +301,18 @@ fn rounds(
     starts: &[usize],
     old: &[usize],
     phase: Phase,
+    index: &[u16],
     order: &mut [usize],
     packages: &mut [u64],
-    uses: &mut [u64],
+    table: &mut [usize],
     q: Queue,
 ) -> Queue
-    requires { ⌜ Between (phase .count) (now set) (now starts) (now order) (now packages) (now uses) 0 q ⌝ }
+    requires { ⌜ Lookup (now set) (now starts) (phase .count) (now index) ⌝ }
+    requires { ⌜ Between phase (now set) (now starts) (now order) (now packages) 0 q ⌝ }
     ensures { λ r. ⌜ Moved (phase .count) (now (order .exit)) r (roundsAt (inputsOf (now (set .entry)) (now (request .entry)) (now (starts .entry)) (now (old .entry)) phase) (suc (phase .count)) (lineAt (now (order .entry)) q)) ⌝ }
 {
     let mut line = q;
-    let mut marked: usize = 0;
+    let mut bound: usize = 0;
     while is_done(line) {
         let from = line.head;
         line = round(
@@ -187,13 +321,14 @@ fn rounds(
             starts,
             old,
             phase,
+            index,
             order,
             packages,
-            uses,
-            marked,
+            table,
+            bound,
             line,
         );
-        marked = from;
+        bound = from;
         if line.head == from {
             return line;
         }
@@ -201,30 +336,33 @@ fn rounds(
     line
 }
 
-// The rounds, where the uses of no module are marked yet.
+// The rounds, with a table for the services of a round.
 pub fn all_rounds(
     set: &[u8],
     request: &[u8],
     starts: &[usize],
     old: &[usize],
     phase: Phase,
+    index: &[u16],
     order: &mut [usize],
     packages: &mut [u64],
     q: Queue,
 ) -> Queue
+    requires { ⌜ Lookup (now set) (now starts) (phase .count) (now index) ⌝ }
     requires { ⌜ Running (phase .count) (now set) (now starts) (now order) (now packages) q ⌝ }
     ensures { λ r. ⌜ Moved (phase .count) (now (order .exit)) r (roundsAt (inputsOf (now (set .entry)) (now (request .entry)) (now (starts .entry)) (now (old .entry)) phase) (suc (phase .count)) (lineAt (now (order .entry)) q)) ⌝ }
 {
-    let mut uses = [0u64; 1024];
+    let mut table = [0usize; 8192];
     rounds(
         set,
         request,
         starts,
         old,
         phase,
+        index,
         order,
         packages,
-        &mut uses,
+        &mut table,
         q,
     )
 }

@@ -54,8 +54,11 @@ module _ (s : List ℕ) (n : ℕ) (t : List ℕ) (e : checkSet s ≡ record { an
   long = ap length (good .names) ∙ length-map (modules s) (λ (m : Descriptor). m .name) ∙ set-length s n t good
 
   -- the table has a start for each module
+  pub starts-room : n ≤ length t
+  starts-room = omega (arith, long, length-map (take n t) (nameAt s), length-take n t)
+
   pub starts-long : (k : ℕ) → k < n → k < length t
-  starts-long k l = omega (arith, long, length-map (take n t) (nameAt s), length-take n t)
+  starts-long k l = omega (arith, starts-room)
 
   -- the name found by the table is the name of the module
   pub name-at-start : (k : ℕ) → k < n → nameAt s (getD t k 0) ≡ moduleAt (modules s) k .name

@@ -1,6 +1,6 @@
 -- Modules at positions: what each turn and each return of the questions shows, and that only the set and its table matter.
 use mathlib.Core.Path.{_≡_, refl, sym, ap, _∙_}
-use mathlib.Core.Bool.{Bool, true, false, not, _||_, cond}
+use mathlib.Core.Bool.{Bool, true, false, _||_, cond}
 use mathlib.Core.Option.{Option, none, some}
 use mathlib.Core.List.{List, [], _∷_, map}
 use Prim.Native.Nat.{ℕ, _+_, _-_, _≤_, _<_}
@@ -33,15 +33,15 @@ use Rattle.resolution.proofs.filter.Covers.{covers-not}
 -- ---- the positions from k on
 
 module _ (ps : List ℕ) (n k : ℕ) where
-  rest-more : k < n → k < length ps → drop k (take n ps) ≡ getD ps k 0 ∷ drop (k + 1) (take n ps)
+  pub rest-more : k < n → k < length ps → drop k (take n ps) ≡ getD ps k 0 ∷ drop (k + 1) (take n ps)
   rest-more l m =
       let q : k < length (take n ps) = rw length-take (omega arith) in
       drop-cons (take n ps) k 0 q ∙ rw (getD-take n ps k 0 l, add-one k)
 
-  rest-past : length ps ≤ k → drop k (take n ps) ≡ []
+  pub rest-past : length ps ≤ k → drop k (take n ps) ≡ []
   rest-past l = drop-of-length-le (take n ps) {i = k} (rw length-take (omega arith))
 
-  rest-none : n ≤ k → drop k (take n ps) ≡ []
+  pub rest-none : n ≤ k → drop k (take n ps) ≡ []
   rest-none l = drop-of-length-le (take n ps) {i = k} (rw length-take (omega arith))
 
 -- ---- one of the positions
@@ -180,45 +180,69 @@ any-map f q (x ∷ l) = rw (any-map f q l)
 
 -- ---- services
 
-pub record UsedAt (set starts ps : List ℕ) (n : ℕ) (b : List ℕ) (at : ℕ) : Type 0 where
-  pub walk : BodyAt (λ (x : List ℕ). hasNamed (asked set starts) Kind.Uses (take n ps) (nameOf x)) Kind.Provides b at
+-- none of those before k uses it
+pub record UsedAt (set starts ps : List ℕ) (from to : ℕ) (name : Name) (k : ℕ) : Type 0 where
+  pub left : hasNamed (asked set starts) Kind.Uses (drop from (take to ps)) name ≡ hasNamed (asked set starts) Kind.Uses (drop k (take to ps)) name
 
-pub used-start : (set starts ps : List ℕ) (n : ℕ) (b : List ℕ) → UsedAt set starts ps n b 0
-used-start set starts ps n b = record { walk = record { within = omega arith; left = refl } }
+pub used-start : (set starts ps : List ℕ) (from to : ℕ) (name : Name) → UsedAt set starts ps from to name from
+used-start set starts ps from to name = record { left = refl }
 
-module _ (set starts ps : List ℕ) (n : ℕ) (b : List ℕ) (at : ℕ) (h : UsedAt set starts ps n b at) where
-  module _ (r : Next) (er : r ≡ nextOf Kind.Provides b at) where
-    module _ (start len : ℕ) (next : Cursor) (e : r ≡ Next.Body start len next) where
-      pub used-less : length b - next .at < length b - at
-      used-less = next-less Kind.Provides b at r er start len next e (h .walk .within)
+module _ (set starts ps : List ℕ) (from to : ℕ) (name : Name) (k : ℕ) (h : UsedAt set starts ps from to name k) where
+  module _ (l : k < to) (m : k < length ps) (b : List ℕ) (eb : b ≡ blockAt set starts (getD ps k 0)) (r : Bool)
+      (er : r ≡ memName name (map nameOf (bodies Kind.Uses b))) where
+    used-turn : hasNamed (asked set starts) Kind.Uses (drop from (take to ps)) name ≡ r || hasNamed (asked set starts) Kind.Uses (drop (k + 1) (take to ps)) name
+    unfolding hasNamed any namesOf blockOf
+    used-turn = h .left ∙ rw (rest-more ps to k l m, ← eb, ← er)
 
-      module _ (x m : List ℕ) (ex : x ≡ take len (drop start b)) (em : m ≡ nameOf x) (t : Bool)
-          (et : t ≡ hasNamed (asked set starts) Kind.Uses (take n ps) m) where
-        asks : hasNamed (asked set starts) Kind.Uses (take n ps) (nameOf (take len (drop start b))) ≡ t
-        asks = sym (et ∙ ap (hasNamed (asked set starts) Kind.Uses (take n ps)) (em ∙ ap nameOf ex))
+    pub used-here : r ≡ true → true ≡ hasNamed (asked set starts) Kind.Uses (drop from (take to ps)) name
+    used-here t = sym (used-turn ∙ rw t)
 
-        pub used-here : t ≡ true → true ≡ any (hasNamed (asked set starts) Kind.Uses (take n ps)) (map nameOf (bodies Kind.Provides b))
-        used-here y =
-            sym (any-map nameOf (hasNamed (asked set starts) Kind.Uses (take n ps)) (bodies Kind.Provides b)
-            ∙ body-turn (λ (z : List ℕ). hasNamed (asked set starts) Kind.Uses (take n ps) (nameOf z)) Kind.Provides b at (h .walk) r er start len next e ∙ rw (asks, y))
+    pub used-more : r ≡ false → UsedAt set starts ps from to name (k + 1)
+    used-more t = record { left = used-turn ∙ rw t }
 
-        pub used-more : t ≡ false → UsedAt set starts ps n b (next .at)
-        used-more y = record {
-          walk = body-more (λ (z : List ℕ). hasNamed (asked set starts) Kind.Uses (take n ps) (nameOf z)) Kind.Provides b at (h .walk) r er start len next e (asks ∙ y);
-        }
+  pub used-past : length ps ≤ k → false ≡ hasNamed (asked set starts) Kind.Uses (drop from (take to ps)) name
+  unfolding hasNamed any
+  used-past l = sym (h .left ∙ rw (rest-past ps to k l))
 
-    pub used-done : r ≡ Next.Nothing → false ≡ any (hasNamed (asked set starts) Kind.Uses (take n ps)) (map nameOf (bodies Kind.Provides b))
-    used-done e =
-        sym (any-map nameOf (hasNamed (asked set starts) Kind.Uses (take n ps)) (bodies Kind.Provides b)
-        ∙ body-done (λ (z : List ℕ). hasNamed (asked set starts) Kind.Uses (take n ps) (nameOf z)) Kind.Provides b at (h .walk) r er e)
+  pub used-none : to ≤ k → false ≡ hasNamed (asked set starts) Kind.Uses (drop from (take to ps)) name
+  unfolding hasNamed any
+  used-none l = sym (h .left ∙ rw (rest-none ps to k l))
 
-pub ruleset used-laws = (used-start, used-less, used-here, used-more, used-done)
+pub ruleset used-laws = (used-start, used-here, used-more, used-past, used-none)
 
-pub provider-is : (set starts ps b : List ℕ) (n i : ℕ) (r : Bool) → b ≡ blockAt set starts i
-    → r ≡ any (hasNamed (asked set starts) Kind.Uses (take n ps)) (map nameOf (bodies Kind.Provides b))
-    → r ≡ any (hasNamed (asked set starts) Kind.Uses (take n ps)) (namesOf (asked set starts) Kind.Provides i)
+-- no service that the block provides before `at` passes
+pub record ProvidesAt (q : Name → Bool) (b : List ℕ) (at : ℕ) : Type 0 where
+  pub walk : BodyAt (λ (x : List ℕ). q (nameOf x)) Kind.Provides b at
+
+pub provides-start : (q : Name → Bool) (b : List ℕ) → ProvidesAt q b 0
+provides-start q b = record { walk = record { within = omega arith; left = refl } }
+
+module _ (q : Name → Bool) (b : List ℕ) (at : ℕ) (h : ProvidesAt q b at) (r : Next) (er : r ≡ nextOf Kind.Provides b at) where
+  module _ (start len : ℕ) (next : Cursor) (e : r ≡ Next.Body start len next) where
+    pub provides-less : length b - next .at < length b - at
+    provides-less = next-less Kind.Provides b at r er start len next e (h .walk .within)
+
+    module _ (x m : List ℕ) (ex : x ≡ take len (drop start b)) (em : m ≡ nameOf x) (t : Bool) (et : t ≡ q m) where
+      asks : q (nameOf (take len (drop start b))) ≡ t
+      asks = sym (et ∙ ap q (em ∙ ap nameOf ex))
+
+      pub provides-here : t ≡ true → true ≡ any q (map nameOf (bodies Kind.Provides b))
+      provides-here y =
+          sym (any-map nameOf q (bodies Kind.Provides b) ∙ body-turn (λ (z : List ℕ). q (nameOf z)) Kind.Provides b at (h .walk) r er start len next e ∙ rw (asks, y))
+
+      pub provides-more : t ≡ false → ProvidesAt q b (next .at)
+      provides-more y = record { walk = body-more (λ (z : List ℕ). q (nameOf z)) Kind.Provides b at (h .walk) r er start len next e (asks ∙ y) }
+
+  pub provides-done : r ≡ Next.Nothing → false ≡ any q (map nameOf (bodies Kind.Provides b))
+  provides-done e = sym (any-map nameOf q (bodies Kind.Provides b) ∙ body-done (λ (z : List ℕ). q (nameOf z)) Kind.Provides b at (h .walk) r er e)
+
+pub ruleset provides-laws = (provides-start, provides-less, provides-here, provides-more, provides-done)
+
+pub provider-is : (set starts ps b : List ℕ) (from to i : ℕ) (r : Bool) → b ≡ blockAt set starts i
+    → r ≡ any (hasNamed (asked set starts) Kind.Uses (drop from (take to ps))) (map nameOf (bodies Kind.Provides b))
+    → r ≡ any (hasNamed (asked set starts) Kind.Uses (drop from (take to ps))) (namesOf (asked set starts) Kind.Provides i)
 unfolding namesOf blockOf
-provider-is set starts ps b n i r eb er = er ∙ rw eb
+provider-is set starts ps b from to i r eb er = er ∙ rw eb
 
 -- ---- requirements
 

@@ -1,14 +1,12 @@
--- The test of a module's packages: the least shared one, and where it stands.
+-- Where a package stands, and the refusal of its module.
 use mathlib.Core.Path.{_≡_, refl, sym, ap, _∙_}
-use mathlib.Core.Bool.{Bool, true, false, not, _&&_, _||_, cond}
+use mathlib.Core.Bool.{Bool, true, false, _&&_}
 use mathlib.Core.Option.{Option, none, some}
-use mathlib.Core.List.{List, [], _∷_, map}
+use mathlib.Core.List.{List, [], _∷_}
 use Prim.Native.Nat.{ℕ, _+_, _-_, _^_, _≤_, _<_}
 use native.Mathlib.Omega.{arith}
 use lib.ListN.{length, getD, take, drop, length-take, length-drop, List·getD-eq-default}
-use Rattle.records.specs.Bytes.{sameBytes, beforeBytes}
-use Rattle.records.specs.Name.{nameOf}
-use Rattle.records.specs.Record.{bodyOf, records, bodies, nextOf, isOf, begins, firstIn, firstOf}
+use Rattle.records.specs.Record.{bodyOf, records, isOf, begins, firstIn, firstOf}
 use Rattle.records.specs.Set.{blockAt}
 use Rattle.records.specs.declared.error.ModuleError.the-variants.{SplitPackage}
 use Rattle.records.specs.declared.finder.Found.{Found}
@@ -19,18 +17,13 @@ use Rattle.records.specs.declared.record.Next.the-variants as Next
 use Rattle.records.specs.declared.record.Kind.{Kind}
 use Rattle.records.specs.declared.record.Kind.the-variants as Kind
 use Rattle.records.proofs.Logic.{clash}
-use Rattle.records.proofs.bytes.Laws.{same-eq}
-use Rattle.records.proofs.bytes.Order.{before-trans, before-total}
-use Rattle.records.proofs.record.Bodies.{bodies-next, bodies-end, next-room, next-less}
 use Rattle.records.proofs.record.Search.{first-room}
-use Rattle.resolution.specs.Lists.{Name, keep}
-use Rattle.resolution.specs.Owner.{least, lesser}
+use Rattle.resolution.specs.Lists.{Name}
 use Rattle.resolution.specs.Resolve.{bodyStart}
-use Rattle.resolution.specs.Resolver.{startOf, blockOf, namesOf, hasNamed, positionOr, ownerAt, splitOf, splitAt}
+use Rattle.resolution.specs.Resolver.{startOf, blockOf, positionOr, ownerAt, splitOf}
 use Rattle.resolution.specs.Filter.{asked, foundOf, positionIn, firstNamed}
 use Rattle.resolution.specs.declared.resolver.Halt.{Halt}
 use Rattle.resolution.specs.declared.resolver.Halt.the-variants as Halt
-use Rattle.resolution.proofs.Lists.{by, true≠false}
 use Rattle.resolution.proofs.modules.Laws.{owner-first}
 
 -- ---- the position
@@ -136,105 +129,3 @@ module _ (set starts ps : List ℕ) (n p : ℕ) (name b : List ℕ) (eb : b ≡ 
       rw (← eb, s, t)
 
 pub ruleset refusal-laws = (refusal-start, refusal-sum, refusal-found, refusal-lost)
-
--- ---- the least of the packages that are shared
-
--- the least of x and y, and of the rest
-lesser-both : (x y : Name) (o : Option Name) → lesser x (lesser y o) ≡ lesser (cond (beforeBytes y x) y x) o
-unfolding lesser
-lesser-both x y none = refl
-lesser-both x y (some z) = go (beforeBytes y x) refl (beforeBytes z y) refl (beforeBytes z x) refl
-  where
-    go : (a : Bool) → beforeBytes y x ≡ a → (b : Bool) → beforeBytes z y ≡ b → (c : Bool) → beforeBytes z x ≡ c
-        → lesser x (some (cond (beforeBytes z y) z y)) ≡ lesser (cond (beforeBytes y x) y x) (some z)
-    go true ea true eb c ec = let d : beforeBytes z x ≡ true = before-trans z y x eb ea in rw (ea, eb, d)
-    go true ea false eb c ec = rw (ea, eb, ea)
-    go false ea true eb c ec = rw (ea, eb)
-    go false ea false eb false ec = rw (ea, eb, ea, ec)
-    go false ea false eb true ec =
-        by (sameBytes z y)
-        (λ s. true≠false (rw (same-eq z y s) at ec) ea)
-        (λ s. true≠false (before-trans y z x (before-total z y eb s) ec) ea)
-
--- whether the name is shared and stands before the least so far
-module _ (u found : Bool) (m best : Name) (t : Bool) (et : t ≡ u) where
-  pub lesser-not : t ≡ false → false ≡ (u && (not found || beforeBytes m best))
-  lesser-not y = rw (← et, y)
-
-  pub lesser-first : t ≡ true → found ≡ false → true ≡ (u && (not found || beforeBytes m best))
-  lesser-first y f = rw (← et, y, f)
-
-  pub lesser-is : (r : Bool) → t ≡ true → found ≡ true → r ≡ beforeBytes m best → r ≡ (u && (not found || beforeBytes m best))
-  lesser-is r y f er = rw (← et, y, f, ← er)
-
-pub ruleset lesser-laws = (lesser-not, lesser-first, lesser-is)
-
--- what is found so far, and the rest
-unfoldable pub leastWith : Bool → Name → Option Name → Option Name
-leastWith true x o = lesser x o
-leastWith false x o = o
-
--- one package more: `u` says that it is shared
-turned : (u found : Bool) (m best : Name) (rest : List Name) → leastWith found best (least (cond u (m ∷ rest) rest))
-    ≡ leastWith ((u && (not found || beforeBytes m best)) || found) (cond (u && (not found || beforeBytes m best)) m best) (least rest)
-unfolding leastWith least
-turned false found m best rest = refl
-turned true false m best rest = refl
-turned true true m best rest = lesser-both best m (least rest) ∙ go (beforeBytes m best)
-  where
-    go : (t : Bool) → lesser (cond t m best) (least rest) ≡ leastWith (t || true) (cond t m best) (least rest)
-    go true = refl
-    go false = refl
-
--- the packages of a block that the modules at the positions have too
-abbrev pub sharedIn : List ℕ → List ℕ → List ℕ → ℕ → List ℕ → List Name
-sharedIn set starts ps n b = keep (hasNamed (asked set starts) Kind.Package (take n ps)) (map nameOf (bodies Kind.Package b))
-
--- the packages before `at` are looked at
-pub record SplitAt (set starts ps : List ℕ) (n : ℕ) (b : List ℕ) (at : ℕ) (found : Bool) (best : Name) : Type 0 where
-  pub within : at ≤ length b
-  pub left : least (sharedIn set starts ps n b)
-      ≡ leastWith found best (least (sharedIn set starts ps n (drop at b)))
-
-pub split-start : (set starts ps : List ℕ) (n : ℕ) (b : List ℕ) (best : Name) → SplitAt set starts ps n b 0 false best
-unfolding leastWith
-split-start set starts ps n b best = record { within = omega arith; left = refl }
-
-module _ (set starts ps : List ℕ) (n : ℕ) (b : List ℕ) (at : ℕ) (found : Bool) (best : Name) (h : SplitAt set starts ps n b at found best) (r : Next)
-    (er : r ≡ nextOf Kind.Package b at) where
-  module _ (start len : ℕ) (next : Cursor) (e : r ≡ Next.Body start len next) where
-    pub split-measure : length b - next .at < length b - at
-    split-measure = next-less Kind.Package b at r er start len next e (h .within)
-
-    module _ (x m : List ℕ) (ex : x ≡ take len (drop start b)) (em : m ≡ nameOf x) (t : Bool)
-        (et : t ≡ (hasNamed (asked set starts) Kind.Package (take n ps) m && (not found || beforeBytes m best))) where
-      split-turn : least (sharedIn set starts ps n b) ≡ leastWith (t || found) (cond t m best) (least (sharedIn set starts ps n (drop (next .at) b)))
-      unfolding keep
-      split-turn =
-          h .left ∙ rw (bodies-next Kind.Package b at r er start len next e (h .within), ← ex, ← em, et)
-          (turned (hasNamed (asked set starts) Kind.Package (take n ps) m) found m best (sharedIn set starts ps n (drop (next .at) b)))
-
-      pub split-less : t ≡ true → SplitAt set starts ps n b (next .at) true m
-      split-less y = record { within = next-room Kind.Package b at r er start len next e (h .within); left = split-turn ∙ rw y }
-
-      pub split-other : t ≡ false → SplitAt set starts ps n b (next .at) found best
-      split-other y = record { within = next-room Kind.Package b at r er start len next e (h .within); left = split-turn ∙ rw y }
-
-  module _ (e : r ≡ Next.Nothing) (p : ℕ) where
-    pub split-found : (q : Halt) → found ≡ true → q ≡ splitOf (asked set starts) (take n ps) p (some best)
-        → q ≡ splitOf (asked set starts) (take n ps) p (least (sharedIn set starts ps n b))
-    unfolding leastWith least lesser keep
-    split-found q f eq = eq ∙ sym (rw (h .left, bodies-end Kind.Package b at r er e, f))
-
-    pub split-none : found ≡ false
-        → Halt.Open ≡ splitOf (asked set starts) (take n ps) p (least (sharedIn set starts ps n b))
-    unfolding leastWith least keep splitOf
-    split-none f = sym (rw (h .left, bodies-end Kind.Package b at r er e, f))
-
-pub ruleset split-laws = (split-start, split-measure, split-less, split-other, split-found, split-none)
-
-pub split-is : (set starts ps b : List ℕ) (n p : ℕ) (q : Halt) → b ≡ blockAt set starts p
-    → q ≡ splitOf (asked set starts) (take n ps) p (least (sharedIn set starts ps n b))
-    → q ≡ splitAt (asked set starts) (take n ps) p
-unfolding splitAt namesOf blockOf
-split-is set starts ps b n p q eb eq = eq ∙ rw eb

@@ -1,4 +1,4 @@
--- The names that the records of one kind queue, one record after the other.
+-- The names that the records of one kind queue, one record after the other, until something ends the queue.
 use Prim.Native.Nat.{ℕ, suc, _+_, _-_, _≤_, _<_}
 use mathlib.Core.Path.{_≡_, refl, sym, _∙_, ap}
 use mathlib.Core.Bool.{Bool, true, false}
@@ -17,9 +17,23 @@ use Rattle.records.specs.declared.record.Next.the-variants.{Body, Nothing}
 use Rattle.records.proofs.Logic.{clash}
 use Rattle.records.proofs.record.Laws.{records-cons, records-none, records-end, records-ind, body-front}
 use Rattle.records.proofs.record.Bodies.{next-less, body-room}
-use Rattle.resolution.specs.Resolver.{Inputs, wantRecord, kindFor, Line, pickLine, lineAt, queued, queueIn, Ready, Moved}
+use Rattle.resolution.specs.Resolver.{Inputs, inputsOf, wantRecord, kindFor, Line, pickLine, lineAt, queued, queuedOn, queueIn, isDone, Ready, Moved}
+use Rattle.resolution.specs.Lookup.{Lookup}
+use Rattle.resolution.specs.declared.resolver.Halt.{Halt}
+use Rattle.resolution.specs.declared.resolver.Halt.the-variants as Halt
+use Rattle.resolution.specs.declared.resolver.Phase.{Phase}
 use Rattle.resolution.specs.declared.resolver.Queue.{Queue}
 use Rattle.resolution.specs.declared.resolver.Wanted.{Wanted}
+
+-- after a halt a name is not queued
+queued-ended : (wanted : Wanted) (l : Line) → isDone (l .halt) ≡ false → queued wanted l ≡ l
+unfolding queued queuedOn isDone
+queued-ended wanted l e = go (l .halt) e
+  where
+    go : (h : Halt) → isDone h ≡ false → queuedOn h wanted l ≡ l
+    go Halt.Open k = clash (cc)
+    go (Halt.Stop x) k = refl
+    go (Halt.Refused x) k = refl
 
 module _ (w : Inputs) (i : Input) where
   abbrev K : Kind
@@ -99,61 +113,84 @@ module _ (w : Inputs) (i : Input) where
       go true eb ih = clash (cc)
       go false eb ih = of-other off r rs l eb ∙ ih l (rw eb at e)
 
+  -- nothing more is queued once something ended the queue
+  ended : (off : ℕ) (rs : List (List ℕ)) (l : Line) → isDone (l .halt) ≡ false → queueIn w i off rs l ≡ l
+  unfolding queueIn
+  ended off [] l e = refl
+  ended off (r ∷ rs) l e = ap (queueIn w i (off + length r) rs) (go (isOf K r)) ∙ ended (off + length r) rs l e
+    where
+      go : (b : Bool) → pickLine b (queued (wantRecord w i (bodyOf r) (off + 4)) l) l ≡ l
+      go true = queued-ended (wantRecord w i (bodyOf r) (off + 4)) l e
+      go false = refl
+
+module _ (set request starts old : List ℕ) (phase : Phase) (index : List ℕ) (i : Input) where
+  abbrev w : Inputs
+  w = inputsOf set request starts old phase
+
   -- the records of source from `from` to `at` are done
-  pub record RecordsAt (k : Kind) (count : ℕ) (source : List ℕ) (from at : ℕ) (start : Line) (order : List ℕ) (q : Queue) : Type 0 where
-    pub kind-is : k ≡ K
+  pub record RecordsAt (k : Kind) (source : List ℕ) (from at : ℕ) (start : Line) (order : List ℕ) (q : Queue) : Type 0 where
+    pub lookup : Lookup set starts (phase .count) index
+    pub kind-is : k ≡ kindFor i
     pub short : length source ≤ 65535
-    pub ready : Ready count order q
+    pub ready : Ready (phase .count) order q
     pub left : queueIn w i from (records (drop from source)) start ≡ queueIn w i at (records (drop at source)) (lineAt order q)
 
-  pub records-start : (k : Kind) (count : ℕ) (source : List ℕ) (from : ℕ) (order : List ℕ) (q : Queue) → k ≡ K → length source ≤ 65535 → Ready count order q
-      → RecordsAt k count source from from (lineAt order q) order q
-  records-start k count source from order q e b h = record { kind-is = e; short = b; ready = h; left = refl }
+  pub records-start : (k : Kind) (source : List ℕ) (from : ℕ) (order : List ℕ) (q : Queue) → Lookup set starts (phase .count) index → k ≡ kindFor i → length source ≤ 65535
+      → Ready (phase .count) order q → RecordsAt k source from from (lineAt order q) order q
+  records-start k source from order q o e b h = record { lookup = o; kind-is = e; short = b; ready = h; left = refl }
 
-  module _ (k : Kind) (count : ℕ) (source : List ℕ) (from at : ℕ) (start : Line) (order : List ℕ) (q : Queue) (h : RecordsAt k count source from at start order q)
-      (r : Next) (er : r ≡ nextOf k source at) where
-    pub records-ready : Ready count order q
+  module _ (k : Kind) (source : List ℕ) (from at : ℕ) (start : Line) (order : List ℕ) (q : Queue) (h : RecordsAt k source from at start order q) where
+    pub records-ended : (d : Bool) → d ≡ isDone (q .halt) → d ≡ false → Moved (phase .count) order q (queueIn w i from (records (drop from source)) start)
+    unfolding lineAt
+    records-ended d ed e = record { line = sym (h .left ∙ ended w i at (records (drop at source)) (lineAt order q) (sym ed ∙ e)); ready = h .ready }
+
+    pub records-lookup : Lookup set starts (phase .count) index
+    records-lookup = h .lookup
+
+    pub records-ready : Ready (phase .count) order q
     records-ready = h .ready
 
-    module _ (at-body len : ℕ) (next : Cursor) (e : r ≡ Body at-body len next) where
-      here : nextOf K source at ≡ Body at-body len next
-      here = sym (ap (λ (z : Kind). nextOf z source at) (h .kind-is)) ∙ sym er ∙ e
+    module _ (r : Next) (er : r ≡ nextOf k source at) where
+      module _ (at-body len : ℕ) (next : Cursor) (e : r ≡ Body at-body len next) where
+        here : nextOf (kindFor i) source at ≡ Body at-body len next
+        here = sym (ap (λ (z : Kind). nextOf z source at) (h .kind-is)) ∙ sym er ∙ e
 
-      inside : at ≤ length source
-      unfolding nextOf nextIn
-      inside = go (ltb at (length source)) refl
-        where
-          go : (b : Bool) → ltb at (length source) ≡ b → at ≤ length source
-          go true t = omega (arith, ltb-true at (length source) t)
-          go false t =
-              let z : nextOf K source at ≡ Nothing = rw (records-end source at (ltb-false at (length source) t)) in
-              clash (cc)
+        inside : at ≤ length source
+        unfolding nextOf nextIn
+        inside = go (ltb at (length source)) refl
+          where
+            go : (b : Bool) → ltb at (length source) ≡ b → at ≤ length source
+            go true t = omega (arith, ltb-true at (length source) t)
+            go false t =
+                let z : nextOf (kindFor i) source at ≡ Nothing = rw (records-end source at (ltb-false at (length source) t)) in
+                clash (cc)
 
-      pub records-fits : at-body ≤ 65535
-      records-fits = omega (arith, h .short, body-room k source at r er at-body len next e inside)
+        pub records-fits : at-body ≤ 65535
+        records-fits = omega (arith, h .short, body-room k source at r er at-body len next e inside)
 
-      pub records-less : length source - next .at < length source - at
-      records-less = next-less k source at r er at-body len next e inside
+        pub records-less : length source - next .at < length source - at
+        records-less = next-less k source at r er at-body len next e inside
 
-      pub records-turn : (b : List ℕ) (wanted : Wanted) (o : List ℕ) (q₂ : Queue) → b ≡ take len (drop at-body source) → wanted ≡ wantRecord w i b at-body
-          → Moved count o q₂ (queued wanted (lineAt order q)) → RecordsAt k count source from (next .at) start o q₂
+        pub records-turn : (b : List ℕ) (wanted : Wanted) (o : List ℕ) (q₂ : Queue) → b ≡ take len (drop at-body source) → wanted ≡ wantRecord w i b at-body
+            → Moved (phase .count) o q₂ (queued wanted (lineAt order q)) → RecordsAt k source from (next .at) start o q₂
+        unfolding nextOf
+        records-turn b wanted o q₂ eb ew m =
+            let z = turn w i (drop at source) .turns at at-body len next (lineAt order q) here in
+            let d : at + (at-body - at) ≡ at-body = omega (arith, z .0) in
+            let g : at + (next .at - at) ≡ next .at = omega (arith, z .0, z .1) in
+            record {
+              lookup = h .lookup;
+              kind-is = h .kind-is;
+              short = h .short;
+              ready = m .ready;
+              left = h .left ∙ z .2 ∙ rw (drop-drop (at-body - at) at source, drop-drop (next .at - at) at source, d, g, m .line, ew, eb);
+            }
+
+      pub records-done : r ≡ Nothing → Moved (phase .count) order q (queueIn w i from (records (drop from source)) start)
       unfolding nextOf
-      records-turn b wanted o q₂ eb ew m =
-          let z = turn (drop at source) .turns at at-body len next (lineAt order q) here in
-          let d : at + (at-body - at) ≡ at-body = omega (arith, z .0) in
-          let g : at + (next .at - at) ≡ next .at = omega (arith, z .0, z .1) in
-          record {
-            kind-is = h .kind-is;
-            short = h .short;
-            ready = m .ready;
-            left = h .left ∙ z .2 ∙ rw (drop-drop (at-body - at) at source, drop-drop (next .at - at) at source, d, g, m .line, ew, eb);
-          }
+      records-done e = record {
+        line = sym (h .left ∙ none-in w i at (records (drop at source)) (lineAt order q) (sym (ap (λ (z : Kind). nextOf z source at) (h .kind-is)) ∙ sym er ∙ e));
+        ready = h .ready;
+      }
 
-    pub records-done : r ≡ Nothing → Moved count order q (queueIn w i from (records (drop from source)) start)
-    unfolding nextOf
-    records-done e = record {
-      line = sym (h .left ∙ none-in at (records (drop at source)) (lineAt order q) (sym (ap (λ (z : Kind). nextOf z source at) (h .kind-is)) ∙ sym er ∙ e));
-      ready = h .ready;
-    }
-
-pub ruleset records-laws = (records-start, records-ready, records-fits, records-less, records-turn, records-done)
+pub ruleset records-laws = (records-start, records-ended, records-lookup, records-ready, records-fits, records-less, records-turn, records-done)

@@ -1,20 +1,19 @@
 -- One turn of the queue, and the queue until none waits.
-use Prim.Native.Nat.{ℕ, zero, suc, _+_, _-_, _≤_, _<_}
+use Prim.Native.Nat.{ℕ, suc, _+_, _-_, _≤_, _<_}
 use mathlib.Core.Path.{_≡_, refl, sym, _∙_, ap, subst}
 use mathlib.Core.Bool.{Bool, true, false, not, _&&_}
-use mathlib.Core.List.{List, [], _∷_, _++_, map}
+use mathlib.Core.List.{List, [], _∷_, _++_}
 use native.Mathlib.Omega.{arith}
 use lib.Dec.{eqb}
 use lib.ListN.{length, getD, take, drop, length-append}
-use lib.Seq.{take-nil, take-take, getD-take, length-take-le, take-append-le}
-use Rattle.records.specs.Name.{nameOf}
-use Rattle.records.specs.Record.{records, bodies, bodyOf, isOf}
+use lib.Seq.{take-take, getD-take, length-take-le, take-append-le}
+use Rattle.records.specs.Record.{records, bodyOf, isOf}
 use Rattle.records.specs.Set.{blockAt}
 use Rattle.records.specs.declared.error.Input.{Input}
 use Rattle.records.specs.declared.error.Input.the-variants as Input
 use Rattle.records.specs.declared.error.ModuleError.{ModuleError}
 use Rattle.records.specs.declared.record.Kind.the-variants as Kind
-use Rattle.resolution.specs.Resolver.{Inputs, inputsOf, startOf, blockOf, wantRecord, kindFor, Line, lineAt, isOneOf, pickLine, queuedAt, queuedOn, queued, queueIn, Ready, Moved, splitAt, advancedAt, handledAt, handleAt, isOpen}
+use Rattle.resolution.specs.Resolver.{Inputs, inputsOf, startOf, blockOf, namesOf, wantRecord, kindFor, Line, lineAt, isOneOf, pickLine, queuedAt, queuedOn, queued, queueIn, Ready, Moved, splitAt, advancedAt, handledAt, handleAt, isOpen, isDone}
 use Rattle.resolution.specs.Filter.{MarkedAll, Covers, asked}
 use Rattle.resolution.specs.Runs.{Running, Ran}
 use Rattle.resolution.specs.declared.resolver.Halt.{Halt}
@@ -25,6 +24,8 @@ use Rattle.resolution.specs.declared.resolver.Wanted.{Wanted}
 use Rattle.resolution.specs.declared.resolver.Wanted.the-variants.{Pass, Add, Stop, Refuse}
 use Rattle.resolution.proofs.filter.Covers.{covers-next}
 use Rattle.resolution.proofs.modules.Asked.{split-asked}
+use Rattle.records.proofs.order.Laws.{drop-take}
+use Rattle.resolution.proofs.modules.Shared.{take-few}
 
 -- ---- queueing leaves what is resolved as it is
 
@@ -94,17 +95,6 @@ longer-records w i at (r ∷ rs) l = longer-then l (pickLine b q l) (queueIn w i
 
 -- ---- the array and the line
 
-few : (n : ℕ) (l : List ℕ) → length (take n l) ≤ length l
-few zero l = omega arith
-few (suc n) [] = omega arith
-few (suc n) (x ∷ l) = omega (arith, few n l)
-
-drop-take : (a b : ℕ) (l : List ℕ) → drop a (take b l) ≡ take (b - a) (drop a l)
-drop-take zero b l = let e : b ≡ b - 0 = omega arith in ap (λ (n : ℕ). take n l) e
-drop-take (suc a) zero l = let e : 0 ≡ 0 - suc a = omega arith in ap (λ (n : ℕ). take n (drop (suc a) l)) e
-drop-take (suc a) (suc b) [] = sym (take-nil (suc b - suc a))
-drop-take (suc a) (suc b) (x ∷ l) = let e : b - a ≡ suc b - suc a = omega arith in drop-take a b l ∙ ap (λ (n : ℕ). take n (drop a l)) e
-
 module _ (count : ℕ) (order : List ℕ) (q : Queue) (h : Ready count order q) where
   pub tail-few : q .tail ≤ count
   tail-few = omega (arith, h .room)
@@ -135,12 +125,41 @@ tail-grows count order order₂ q r h k g =
 
 -- ---- the module at the head is resolved
 
-module _ (count : ℕ) (set starts order packages : List ℕ) (q : Queue) (h : Running count set starts order packages q) (l : q .head < q .tail) where
+module _ (count : ℕ) (set starts order : List ℕ) (q : Queue) (h : Ready count order q) (l : q .head < q .tail) where
   pub head-index : q .head < length order
-  head-index = omega (arith, l, tail-long count order q (h .ready))
+  head-index = omega (arith, l, tail-long count order q h)
 
   pub head-fits : q .head < 256
-  head-fits = omega (arith, l, tail-few count order q (h .ready), h .ready .few)
+  head-fits = omega (arith, l, tail-few count order q h, h .few)
+
+  pub source-short : (s : List ℕ) (n : ℕ) → length set ≤ 65535 → s ≡ take n set → length s ≤ 65535
+  source-short s n k e = rw e (omega (arith, take-few n set, k))
+
+  pub next-ready : Ready count order (record { head = q .head + 1; tail = q .tail; halt = q .halt })
+  next-ready = record { long = h .long; few = h .few; waits = omega (arith, l); room = h .room }
+
+  -- the line that the records of its block make
+  pub advance-moved : (request old : List ℕ) (phase : Phase) (from to : ℕ) (source order₂ : List ℕ) (r : Queue)
+      → to ≡ getD starts (getD order (q .head) 0 + 1) 0 → source ≡ take to set → from ≡ getD starts (getD order (q .head) 0) 0
+      → Moved count order₂ r (queueIn (inputsOf set request starts old phase) Input.Set from (records (drop from source)) (lineAt order (record { head = q .head + 1; tail = q .tail; halt = q .halt })))
+      → Moved count order₂ r (advancedAt (inputsOf set request starts old phase) (lineAt order q) (getD order (q .head) 0))
+  unfolding advancedAt startOf blockOf inputsOf blockAt lineAt
+  advance-moved request old phase from to source order₂ r et es ef mv =
+      let cut : drop from source ≡ blockAt set starts (getD order (q .head) 0) =
+      rw (es, ef, et) (drop-take (getD starts (getD order (q .head) 0) 0) (getD starts (getD order (q .head) 0 + 1) 0) set) in
+      let one-more : q .head + 1 ≡ suc (q .head) = omega arith in
+      record { line = mv .line ∙ rw (cut, ef, one-more); ready = mv .ready }
+
+pub ruleset advance-laws = (head-index, head-fits, source-short, next-ready, advance-moved)
+
+-- ---- the module at the head, its packages first
+
+module _ (count : ℕ) (set starts order packages : List ℕ) (q : Queue) (h : Running count set starts order packages q) (l : q .head < q .tail) where
+  pub turn-index : q .head < length order
+  turn-index = head-index count set starts order q (h .ready) l
+
+  pub turn-ready : Ready count order q
+  turn-ready = h .ready
 
   pub turn-wide : length packages ≡ 1024
   turn-wide = h .wide
@@ -151,100 +170,79 @@ module _ (count : ℕ) (set starts order packages : List ℕ) (q : Queue) (h : R
   pub turn-covers : Covers (asked set starts) Kind.Package packages (take (q .head) order)
   turn-covers = h .covers
 
-  pub source-short : (s : List ℕ) (n : ℕ) → s ≡ take n set → length s ≤ 65535
-  source-short s n e = rw e (omega (arith, few n set, h .short))
+  module _ (request old : List ℕ) (phase : Phase) (split : Halt) (es : split ≡ splitAt (asked set starts) (take (q .head) order) (getD order (q .head) 0))
+      (packages₂ : List ℕ) (wide : length packages₂ ≡ length packages)
+      (m : MarkedAll packages (namesOf (asked set starts) Kind.Package (getD order (q .head) 0)) packages₂) where
+    abbrev at : ℕ
+    at = getD order (q .head) 0
 
-  pub next-ready : Ready count order (record { head = q .head + 1; tail = q .tail; halt = q .halt })
-  next-ready = record { long = h .ready .long; few = h .ready .few; waits = omega (arith, l); room = h .ready .room }
+    abbrev v : Inputs
+    v = inputsOf set request starts old phase
 
-  module _ (request old : List ℕ) (phase : Phase) where
-    abbrev w : Inputs
-    w = inputsOf set request starts old phase
+    at-head : getD (take (q .tail) order) (q .head) 0 ≡ at
+    at-head = getD-take (q .tail) order (q .head) 0 l
 
-    abbrev p : ℕ
-    p = getD order (q .head) 0
+    same-split : splitAt v (take (q .head) (take (q .tail) order)) at ≡ split
+    same-split = rw (resolved-part count order q (h .ready)) (split-of ∙ sym es)
+      where
+        split-of : splitAt v (take (q .head) order) at ≡ splitAt (asked set starts) (take (q .head) order) at
+        split-of = unfold inputsOf in split-asked v (take (q .head) order) at
 
-    -- the line that the records of its block make
-    pub advance-ran : (from to : ℕ) (b source packages₂ order₂ : List ℕ) (r : Queue)
-        → b ≡ blockAt set starts (getD order (q .head) 0) → MarkedAll packages (map nameOf (bodies Kind.Package b)) packages₂ → length packages₂ ≡ length packages
-        → to ≡ getD starts (getD order (q .head) 0 + 1) 0 → source ≡ take to set → from ≡ getD starts (getD order (q .head) 0) 0
-        → Moved count order₂ r (queueIn (inputsOf set request starts old phase) Input.Set from (records (drop from source)) (lineAt order (record { head = q .head + 1; tail = q .tail; halt = q .halt })))
-        → Ran count set starts order₂ packages₂ r (advancedAt (inputsOf set request starts old phase) (lineAt order q) (getD order (q .head) 0))
-    unfolding advancedAt startOf blockOf inputsOf blockAt lineAt
-    advance-ran from to b source packages₂ order₂ r eb m wide et es ef mv =
-        let cut : drop from source ≡ blockAt set starts p = rw (es, ef, et) (drop-take (getD starts p 0) (getD starts (p + 1) 0) set) in
+    handled-is : handleAt v (lineAt order q) ≡ handledAt v (lineAt order q) at split
+    unfolding handleAt lineAt
+    handled-is = rw (at-head, same-split)
+
+    -- the module at the head is covered too
+    next-covers : Covers (asked set starts) Kind.Package packages₂ (take (q .head + 1) order)
+    unfolding namesOf blockOf
+    next-covers = covers-next set starts Kind.Package packages packages₂ order (blockAt set starts at) (q .head) at turn-index refl refl (h .covers) m
+
+    -- and is in front after the turn
+    next-front : (order₂ : List ℕ) (r : Queue) → Moved count order₂ r (advancedAt v (lineAt order q) at) → take (r .head) order₂ ≡ take (q .head + 1) order
+    unfolding advancedAt lineAt
+    next-front order₂ r mv =
         let one-more : q .head + 1 ≡ suc (q .head) = omega arith in
-        let g : Longer (lineAt order (record { head = q .head + 1; tail = q .tail; halt = q .halt })) (lineAt order₂ r) =
-        subst (Longer (lineAt order (record { head = q .head + 1; tail = q .tail; halt = q .halt }))) (sym (mv .line))
-        (longer-records w Input.Set from (records (drop from source)) (lineAt order (record { head = q .head + 1; tail = q .tail; halt = q .halt }))) in
-        let same : take (r .head) order₂ ≡ take (q .head + 1) order =
-        ap (λ (n : ℕ). take n order₂) (g .head)
-        ∙ front-same count order order₂ (record { head = q .head + 1; tail = q .tail; halt = q .halt }) r (q .head + 1) next-ready (mv .ready) (g .grown) (omega (arith, l)) in
-        record {
-          line = mv .line ∙ rw (cut, ef, one-more);
-          running = record {
-            ready = mv .ready;
-            short = h .short;
-            wide = wide ∙ h .wide;
-            covers = rw same (covers-next set starts Kind.Package packages packages₂ order b (q .head) p head-index refl eb (h .covers) m);
-          };
-        }
+        let g : Longer (lineAt order (record { head = suc (q .head); tail = q .tail; halt = q .halt })) (lineAt order₂ r) =
+        subst (Longer (lineAt order (record { head = suc (q .head); tail = q .tail; halt = q .halt }))) (sym (mv .line))
+        (longer-records v Input.Set (startOf v at) (records (blockOf v at)) (lineAt order (record { head = suc (q .head); tail = q .tail; halt = q .halt }))) in
+        let ready : Ready count order (record { head = suc (q .head); tail = q .tail; halt = q .halt }) = rw one-more at (next-ready count set starts order q (h .ready) l) in
+        rw one-more
+        (ap (λ (n : ℕ). take n order₂) (g .head)
+        ∙ front-same count order order₂ (record { head = suc (q .head); tail = q .tail; halt = q .halt }) r (suc (q .head)) ready (mv .ready) (g .grown) (omega (arith, l)))
 
-pub ruleset advance-laws = (head-index, head-fits, turn-wide, turn-short, source-short, next-ready, advance-ran)
+    pub handle-open : (order₂ : List ℕ) (r : Queue) → split ≡ Halt.Open
+        → Moved count order₂ r (advancedAt (inputsOf set request starts old phase) (lineAt order q) (getD order (q .head) 0))
+        → Ran count set starts order₂ packages₂ r (handleAt (inputsOf set request starts old phase) (lineAt order q))
+    unfolding handledAt
+    handle-open order₂ r e mv = record {
+      line = mv .line ∙ sym (handled-is ∙ rw e);
+      running = record { ready = mv .ready; short = h .short; wide = wide ∙ h .wide; covers = rw (next-front order₂ r mv) next-covers };
+    }
 
--- ---- the module at the head, its packages first
+    refused-ran : (e : ModuleError) → handledAt v (lineAt order q) at split ≡ record { order = take (q .tail) order; head = q .head; halt = Halt.Refused e }
+        → Ran count set starts order packages₂ (record { head = q .head; tail = q .tail; halt = Halt.Refused e }) (handleAt v (lineAt order q))
+    unfolding lineAt
+    refused-ran e k = record {
+      line = sym (handled-is ∙ k);
+      running = record {
+        ready = record { long = h .ready .long; few = h .ready .few; waits = h .ready .waits; room = h .ready .room };
+        short = h .short;
+        wide = wide ∙ h .wide;
+        covers = record { each = λ i p n t. m .kept n (h .covers .each i p n t) };
+      };
+    }
 
-module _ (count : ℕ) (set starts order packages : List ℕ) (q : Queue) (h : Running count set starts order packages q) (l : q .head < q .tail)
-    (request old : List ℕ) (phase : Phase)
-    (split : Halt) (es : split ≡ splitAt (asked set starts) (take (q .head) order) (getD order (q .head) 0)) where
-  abbrev at : ℕ
-  at = getD order (q .head) 0
+    pub handle-stop : (e : ModuleError) → split ≡ Halt.Stop e
+        → Ran count set starts order packages₂ (record { head = q .head; tail = q .tail; halt = Halt.Refused e }) (handleAt (inputsOf set request starts old phase) (lineAt order q))
+    unfolding handledAt lineAt
+    handle-stop e k = refused-ran e (rw k)
 
-  abbrev v : Inputs
-  v = inputsOf set request starts old phase
+    pub handle-refused : (e : ModuleError) → split ≡ Halt.Refused e
+        → Ran count set starts order packages₂ (record { head = q .head; tail = q .tail; halt = Halt.Refused e }) (handleAt (inputsOf set request starts old phase) (lineAt order q))
+    unfolding handledAt lineAt
+    handle-refused e k = refused-ran e (rw k)
 
-  at-head : getD (take (q .tail) order) (q .head) 0 ≡ at
-  at-head = getD-take (q .tail) order (q .head) 0 l
-
-  same-split : splitAt v (take (q .head) (take (q .tail) order)) at ≡ split
-  same-split = rw (resolved-part count order q (h .ready)) (split-of ∙ sym es)
-    where
-      split-of : splitAt v (take (q .head) order) at ≡ splitAt (asked set starts) (take (q .head) order) at
-      split-of = unfold inputsOf in split-asked v (take (q .head) order) at
-
-  handled-is : handleAt v (lineAt order q) ≡ handledAt v (lineAt order q) at split
-  unfolding handleAt lineAt
-  handled-is = rw (at-head, same-split)
-
-  pub handle-open : (order₂ packages₂ : List ℕ) (r : Queue) → split ≡ Halt.Open → Ran count set starts order₂ packages₂ r (advancedAt v (lineAt order q) (getD order (q .head) 0))
-      → Ran count set starts order₂ packages₂ r (handleAt v (lineAt order q))
-  unfolding handledAt
-  handle-open order₂ packages₂ r e m = record { line = m .line ∙ sym (handled-is ∙ rw e); running = m .running }
-
-  refused-ran : (e : ModuleError) → handledAt v (lineAt order q) at split ≡ record { order = take (q .tail) order; head = q .head; halt = Halt.Refused e }
-      → Ran count set starts order packages (record { head = q .head; tail = q .tail; halt = Halt.Refused e }) (handleAt v (lineAt order q))
-  unfolding lineAt
-  refused-ran e k = record {
-    line = sym (handled-is ∙ k);
-    running = record {
-      ready = record { long = h .ready .long; few = h .ready .few; waits = h .ready .waits; room = h .ready .room };
-      short = h .short;
-      wide = h .wide;
-      covers = h .covers;
-    };
-  }
-
-  pub handle-stop : (e : ModuleError) → split ≡ Halt.Stop e
-      → Ran count set starts order packages (record { head = q .head; tail = q .tail; halt = Halt.Refused e }) (handleAt v (lineAt order q))
-  unfolding handledAt lineAt
-  handle-stop e k = refused-ran e (rw k)
-
-  pub handle-refused : (e : ModuleError) → split ≡ Halt.Refused e
-      → Ran count set starts order packages (record { head = q .head; tail = q .tail; halt = Halt.Refused e }) (handleAt v (lineAt order q))
-  unfolding handledAt lineAt
-  handle-refused e k = refused-ran e (rw k)
-
-pub ruleset handle-laws = (head-index, turn-wide, turn-short, turn-covers, handle-open, handle-stop, handle-refused)
+pub ruleset handle-laws = (turn-index, turn-ready, turn-wide, turn-short, turn-covers, handle-open, handle-stop, handle-refused)
 
 -- ---- the queue goes on
 
@@ -261,3 +259,19 @@ unfolding isOpen
 on-stop q e t = sym (rw t)
 
 pub ruleset on-laws = (on-refused, on-open, on-stop)
+
+-- ---- nothing ends the queue
+
+pub done-open : (q : Queue) → q .halt ≡ Halt.Open → true ≡ isDone (q .halt)
+unfolding isDone
+done-open q e = sym (rw e)
+
+pub done-stop : (q : Queue) (x : ModuleError) → q .halt ≡ Halt.Stop x → false ≡ isDone (q .halt)
+unfolding isDone
+done-stop q x e = sym (rw e)
+
+pub done-refused : (q : Queue) (x : ModuleError) → q .halt ≡ Halt.Refused x → false ≡ isDone (q .halt)
+unfolding isDone
+done-refused q x e = sym (rw e)
+
+pub ruleset done-laws = (done-open, done-stop, done-refused)

@@ -11,6 +11,7 @@ use Rattle.records.specs.Descriptor.{requirementOf}
 use Rattle.records.specs.Request.{requestOf, isPermitted}
 use Rattle.records.specs.Set.{nameAt}
 use Rattle.records.specs.Finder.{findName}
+use Rattle.records.specs.Index.{Indexed}
 use Rattle.records.specs.declared.error.Input.{Input}
 use Rattle.records.specs.declared.error.Input.the-variants as Input
 use Rattle.records.specs.declared.error.ModuleError.{ModuleError}
@@ -21,6 +22,7 @@ use Rattle.records.proofs.finder.Modules.{found-at}
 use Rattle.resolution.specs.Row.{holds}
 use Rattle.resolution.specs.Resolver.{Inputs, inputsOf, blockOf, locate, isMetBefore, wantAbsent, wantUnfound, wantFound, want, wantRecord, Within}
 use Rattle.resolution.specs.Filter.{askedBefore}
+use Rattle.resolution.specs.Lookup.{Lookup}
 use Rattle.resolution.specs.declared.resolver.Phase.{Phase}
 use Rattle.resolution.specs.declared.resolver.Wanted.{Wanted}
 use Rattle.resolution.specs.declared.resolver.Wanted.the-variants.{Pass, Add, Stop, Refuse}
@@ -127,7 +129,16 @@ module _ (set request starts old : List ℕ) (phase : Phase) (n : List ℕ) (opt
     unfolding want wantFound
     want-unfound t r er = sym (rw (located, h, t, er))
 
-pub ruleset want-laws = (want-add, want-pass, want-optional, want-unfound, within-add, within-pass)
+pub want-few : (set starts : List ℕ) (count : ℕ) (index : List ℕ) → Lookup set starts count index → count ≤ 256
+want-few set starts count index h = h .few
+
+pub want-inside : (set starts : List ℕ) (count : ℕ) (index : List ℕ) → Lookup set starts count index → count ≤ length starts
+want-inside set starts count index h = h .within
+
+pub want-indexed : (set starts : List ℕ) (count : ℕ) (index : List ℕ) → Lookup set starts count index → Indexed (map (nameAt set) (take count starts)) index
+want-indexed set starts count index h = h .indexed
+
+pub ruleset want-laws = (want-few, want-inside, want-indexed, want-add, want-pass, want-optional, want-unfound, within-add, within-pass)
 
 -- ---- a record
 

@@ -13,7 +13,8 @@ use Rattle.records.specs.declared.error.ModuleError.the-variants.{JavaBaseNotFo
 use Rattle.records.specs.declared.record.Kind.the-variants as Kind
 use Rattle.resolution.specs.Resolver.{Inputs, inputsOf, want, Line, lineAt, isOneOf, pickLine, queued, queueIn, runAt, roundsAt, frontAt, rootsAt, firstAt, thenRounds, startOn, resolveAt, Ready, Fresh, Moved}
 use Rattle.resolution.specs.Filter.{asked}
-use Rattle.resolution.specs.Runs.{Running, Ran, Between}
+use Rattle.resolution.specs.Lookup.{Lookup}
+use Rattle.resolution.specs.Runs.{Running, Ran}
 use Rattle.resolution.specs.declared.resolver.Halt.{Halt}
 use Rattle.resolution.specs.declared.resolver.Halt.the-variants as Halt
 use Rattle.resolution.specs.declared.resolver.Phase.{Phase}
@@ -104,15 +105,8 @@ pub ruleset first-laws = (first-running, first-ran)
 
 -- ---- the whole
 
-pub order-fresh : (count : ℕ) → count ≤ 256 → Fresh count (replicate 256 0)
-order-fresh count l = record { long = length-replicate {A = ℕ} 256 0; few = l }
-
-pub uses-fresh : (count : ℕ) (set starts order packages : List ℕ) (q : Queue) → Running count set starts order packages q → Between count set starts order packages (replicate 1024 0) 0 q
-uses-fresh count set starts order packages q h = record {
-  running = h;
-  used = record { wide = length-replicate {A = ℕ} 1024 0; covers = covers-none (asked set starts) Kind.Uses (replicate 1024 0) };
-  behind = omega arith;
-}
+pub order-fresh : (set starts : List ℕ) (count : ℕ) (index : List ℕ) → Lookup set starts count index → Fresh count (replicate 256 0)
+order-fresh set starts count index h = record { long = length-replicate {A = ℕ} 256 0; few = h .few }
 
 module _ (set request starts words : List ℕ) (count : ℕ) (order packages : List ℕ) (q : Queue)
     (m : Ran count set starts order packages q (firstAt (inputsOf set request starts starts (record { count = count; permitted = words; in_round = false; before = 0 })))) where

@@ -2,76 +2,51 @@
 use Prim.Native.Nat.{ℕ, zero, suc, _+_, _-_, _≤_, _<_}
 use mathlib.Core.Path.{_≡_, refl, sym, _∙_, ap, subst}
 use mathlib.Core.Bool.{Bool, true, false, not, _&&_}
-use mathlib.Core.List.{List, [], _∷_, _++_, map}
+use mathlib.Core.List.{List, [], _∷_, _++_}
 use native.Mathlib.Omega.{arith}
 use lib.Dec.{eqb}
 use lib.ListN.{length, getD, take, length-append}
-use lib.Seq.{length-take-le}
+use lib.Seq.{length-take-le, take-take}
 use borrow.Author.Tests.{eqb-true, eqb-false, eq-eqb}
-use Rattle.records.specs.Name.{nameOf}
-use Rattle.records.specs.Record.{records, bodies}
-use Rattle.records.specs.Set.{blockAt}
+use Rattle.records.specs.Record.{records}
 use Rattle.records.specs.declared.error.Input.the-variants as Input
-use Rattle.records.specs.declared.error.ModuleError.{ModuleError}
-use Rattle.records.specs.declared.record.Kind.the-variants as Kind
 use Rattle.records.proofs.Logic.{clash}
 use Rattle.resolution.specs.Row.{one}
-use Rattle.resolution.specs.Resolver.{Inputs, inputsOf, startOf, blockOf, Line, lineAt, pickLine, Ready, Moved, splitAt, advancedAt, handledAt, handleAt, isOpen, goesOn, runAt, provideAt, isDone, roundAt, roundsAt}
-use Rattle.resolution.specs.Filter.{MarkedAll}
-use Rattle.resolution.specs.Runs.{Running, Ran, Used, Between, Rounded}
+use Rattle.resolution.specs.Resolver.{Inputs, inputsOf, startOf, blockOf, Line, lineAt, isOneOf, pickLine, Ready, Moved, splitAt, advancedAt, handledAt, handleAt, isOpen, goesOn, runAt, isProviderAt, provideAt, isDone, roundAt, roundsAt}
+use Rattle.resolution.specs.Lookup.{Lookup}
+use Rattle.resolution.specs.Runs.{Running, Ran, Told, Unbound, Binding, Between, Rounded}
 use Rattle.resolution.specs.declared.resolver.Halt.{Halt}
 use Rattle.resolution.specs.declared.resolver.Halt.the-variants as Halt
 use Rattle.resolution.specs.declared.resolver.Phase.{Phase}
 use Rattle.resolution.specs.declared.resolver.Queue.{Queue}
-use Rattle.resolution.proofs.filter.Covers.{covers-next}
+use Rattle.resolution.specs.declared.rounds.Services.{Services}
+use Rattle.resolution.proofs.Lists.{true≠false}
 use Rattle.resolution.proofs.resolver.Turns.{append-nil, Grown, Longer, grown-same, grown-then, longer-records, front-same, tail-grows, tail-few, tail-long}
 use Rattle.resolution.proofs.resolver.Runs.{not-back, run-ended}
-use Rattle.resolution.proofs.rounds.Providers.{longer-provided, halt-provided, provide-same}
+use Rattle.resolution.proofs.rounds.Providers.{one-grown, provider-none, longer-provided, halt-provided, provided-in, provide-same}
 
--- ---- the uses of the modules resolved since the last round
+-- ---- whether the rounds go on
 
-pub record UsesAt (set starts order uses : List ℕ) (from to k : ℕ) : Type 0 where
-  pub upto : k ≤ to
-  pub long : to ≤ length order
-  pub used : Used set starts order uses k
+-- ---- the providers of a round
 
-module _ (set starts order : List ℕ) (from to : ℕ) where
-  pub uses-start : (uses : List ℕ) → Used set starts order uses from → from ≤ to → to ≤ length order → UsesAt set starts order uses from to from
-  uses-start uses u l b = record { upto = l; long = b; used = u }
+module _ (phase : Phase) (set starts order : List ℕ) (bound : ℕ) (q : Queue) (h : Unbound phase set starts order bound q) where
+  pub bind-long : q .head ≤ length order
+  bind-long = omega (arith, h .ready .waits, tail-long (phase .count) order q (h .ready))
 
-  module _ (uses : List ℕ) (k : ℕ) (h : UsesAt set starts order uses from to k) where
-    pub uses-index : k < to → k < length order
-    uses-index l = omega (arith, l, h .long)
+  pub bind-told : (table : List ℕ) (s : Services) → Told set starts order bound (q .head) table s → Binding phase set starts order bound (q .head) table s q
+  bind-told table s t = record { ready = h .ready; told = t; bound-is = h .bound-is; behind = h .behind }
 
-    pub uses-wide : length uses ≡ 1024
-    uses-wide = h .used .wide
+pub ruleset bind-laws = (bind-long, bind-told)
 
-    pub uses-more : k < to → (b uses₂ : List ℕ) → b ≡ blockAt set starts (getD order k 0) → MarkedAll uses (map nameOf (bodies Kind.Uses b)) uses₂ → length uses₂ ≡ length uses
-        → UsesAt set starts order uses₂ from to (k + 1)
-    uses-more l b uses₂ eb m w = record {
-      upto = omega (arith, l);
-      long = h .long;
-      used = record { wide = w ∙ h .used .wide; covers = covers-next set starts Kind.Uses uses uses₂ order b k (getD order k 0) (uses-index l) refl eb (h .used .covers) m };
-    }
+-- ---- before the rounds
 
-    pub uses-done : to ≤ k → Used set starts order uses to
-    uses-done l = let e : k ≡ to = omega (arith, l, h .upto) in subst (Used set starts order uses) e (h .used)
-
-pub ruleset uses-laws = (uses-start, uses-index, uses-wide, uses-more, uses-done)
-
-pub done-open : (q : Queue) → q .halt ≡ Halt.Open → true ≡ isDone (q .halt)
-unfolding isDone
-done-open q e = sym (rw e)
-
-pub done-stop : (q : Queue) (x : ModuleError) → q .halt ≡ Halt.Stop x → false ≡ isDone (q .halt)
-unfolding isDone
-done-stop q x e = sym (rw e)
-
-pub done-refused : (q : Queue) (x : ModuleError) → q .halt ≡ Halt.Refused x → false ≡ isDone (q .halt)
-unfolding isDone
-done-refused q x e = sym (rw e)
-
-pub ruleset done-laws = (done-open, done-stop, done-refused)
+-- no module was asked yet
+pub rounds-fresh : (set starts order packages : List ℕ) (phase : Phase) (q : Queue) → Running (phase .count) set starts order packages q → Between phase set starts order packages 0 q
+rounds-fresh set starts order packages phase q h = record {
+  running = h;
+  bound-is = record { each = λ i l e. true≠false e (provider-none (inputsOf set [] starts [] phase) i) };
+  behind = omega arith;
+}
 
 -- ---- what the queue keeps
 
@@ -124,38 +99,16 @@ module _ (set request starts old : List ℕ) (phase : Phase) where
   abbrev w : Inputs
   w = inputsOf set request starts old phase
 
-  -- ---- the providers of a round
-
-  module _ (order uses : List ℕ) (marked : ℕ) (q : Queue) (h : Ready (phase .count) order q) where
-    pub bind-long : q .head ≤ length order
-    bind-long = omega (arith, h .waits, tail-long (phase .count) order q h)
-
-    module _ (uses₂ order₂ : List ℕ) (r : Queue) (u : Used set starts order uses₂ (q .head)) (m : Moved (phase .count) order₂ r (provideAt (inputsOf set [] starts [] phase) (lineAt order q))) where
-      bound-longer : Longer (lineAt order q) (lineAt order₂ r)
-      unfolding provideAt
-      bound-longer =
-          subst (Longer (lineAt order q)) (sym (m .line))
-          (longer-provided (inputsOf set [] starts [] phase) (take (lineAt order q .head) (lineAt order q .order)) (inputsOf set [] starts [] phase .count) 0 (lineAt order q))
-
-      pub bind-used : Used set starts order₂ uses₂ (q .head)
-      bind-used = record { wide = u .wide; covers = rw (front-same (phase .count) order order₂ q r (q .head) h (m .ready) (bound-longer .grown) (h .waits)) (u .covers) }
-
   -- ---- one round
 
-  module _ (order packages uses : List ℕ) (marked : ℕ) (q : Queue) (h : Between (phase .count) set starts order packages uses marked q) where
+  module _ (order packages : List ℕ) (bound : ℕ) (q : Queue) (h : Between phase set starts order packages bound q) where
     ready : Ready (phase .count) order q
     ready = h .running .ready
 
-    pub round-ready : Ready (phase .count) order q
-    round-ready = ready
+    pub round-unbound : Unbound phase set starts order bound q
+    round-unbound = record { short = h .running .short; ready = ready; bound-is = h .bound-is; behind = h .behind }
 
-    pub round-used : Used set starts order uses marked
-    round-used = h .used
-
-    pub round-behind : marked ≤ q .head
-    round-behind = h .behind
-
-    module _ (uses₂ order₂ : List ℕ) (r : Queue) (m : Moved (phase .count) order₂ r (provideAt (inputsOf set [] starts [] phase) (lineAt order q))) where
+    module _ (order₂ : List ℕ) (r : Queue) (m : Moved (phase .count) order₂ r (provideAt (inputsOf set [] starts [] phase) (lineAt order q))) where
       line-is : lineAt order₂ r ≡ provideAt w (lineAt order q)
       line-is = m .line ∙ provide-same set request starts old phase (lineAt order q)
 
@@ -166,14 +119,6 @@ module _ (set request starts old : List ℕ) (phase : Phase) where
       same-head : r .head ≡ q .head
       unfolding lineAt
       same-head = longer .head
-
-      same-halt : r .halt ≡ q .halt
-      unfolding lineAt provideAt
-      same-halt = ap (λ (l : Line). l .halt) line-is ∙ halt-provided w (take (q .head) (take (q .tail) order)) (w .count) 0 (lineAt order q)
-
-      tail-is : length (provideAt w (lineAt order q) .order) ≡ r .tail
-      unfolding lineAt
-      tail-is = sym (ap (λ (l : Line). length (l .order)) line-is) ∙ length-take-le (r .tail) order₂ (tail-long (phase .count) order₂ r (m .ready))
 
       grows : q .tail ≤ r .tail
       grows = tail-grows (phase .count) order order₂ q r ready (m .ready) (longer .grown)
@@ -186,16 +131,30 @@ module _ (set request starts old : List ℕ) (phase : Phase) where
         covers = rw (same-head, front-same (phase .count) order order₂ q r (q .head) ready (m .ready) (longer .grown) (ready .waits)) (h .running .covers);
       }
 
-      module _ (u : Used set starts order₂ uses₂ (q .head)) where
+      module _ (d : isDone (q .halt) ≡ true) where
+        -- the providers are in the queue
+        all-in : (i : ℕ) → i < phase .count → isProviderAt (inputsOf set [] starts [] phase) (take (q .head) order₂) i ≡ true → isOneOf i (take (r .tail) order₂) ≡ true
+        unfolding lineAt provideAt inputsOf
+        all-in i l e =
+            let f : take (q .head) order₂ ≡ take (q .head) (take (q .tail) order) =
+            front-same (phase .count) order order₂ q r (q .head) ready (m .ready) (longer .grown) (ready .waits) ∙ sym (take-take (q .head) (q .tail) order (ready .waits)) in
+            ap (λ (k : Line). isOneOf i (k .order)) (m .line)
+            ∙ provided-in (inputsOf set [] starts [] phase) (take (q .head) (take (q .tail) order)) (phase .count) 0 (lineAt order q) d i (omega arith) (omega (arith, l))
+            (ap (λ (ps : List ℕ). isProviderAt (inputsOf set [] starts [] phase) ps i) (sym f) ∙ e)
+
         -- the queue of the round
         pub round-ran : (order₃ packages₃ : List ℕ) (r₃ : Queue) → Ran (phase .count) set starts order₃ packages₃ r₃ (runAt w (suc (phase .count) - r .head) (lineAt order₂ r))
-            → (isOpen (r₃ .halt) && not (eqb (r₃ .head) (r₃ .tail))) ≡ false → Rounded (phase .count) set starts order₃ packages₃ uses₂ (q .head) r₃ (roundAt w (lineAt order q))
+            → (isOpen (r₃ .halt) && not (eqb (r₃ .head) (r₃ .tail))) ≡ false → Rounded phase set starts order₃ packages₃ (q .head) r₃ (roundAt w (lineAt order q))
         unfolding roundAt lineAt inputsOf
         round-ran order₃ packages₃ r₃ n off = record {
           line = n .line ∙ ap (λ (x : ℕ). runAt w (suc (phase .count) - x) (lineAt order₂ r)) same-head ∙ ap (runAt w (suc (phase .count) - q .head)) line-is;
           between = record {
             running = n .running;
-            used = record { wide = u .wide; covers = rw (front-same (phase .count) order₂ order₃ r r₃ (q .head) (m .ready) (n .running .ready) grown (omega (arith, ready .waits, grows))) (u .covers) };
+            bound-is = record {
+              each = λ i l e.
+                  one-grown (lineAt order₂ r) (lineAt order₃ r₃) i grown
+                  (all-in i l (ap (λ (ps : List ℕ). isProviderAt (inputsOf set [] starts [] phase) ps i) (sym same) ∙ e));
+            };
             behind = omega (arith, ap (λ (l : Line). l .head) (n .line), never-back w (suc (phase .count) - r .head) (lineAt order₂ r), same-head);
           };
           off = off;
@@ -203,6 +162,9 @@ module _ (set request starts old : List ℕ) (phase : Phase) where
           where
             grown : Grown (lineAt order₂ r) (lineAt order₃ r₃)
             grown = subst (Grown (lineAt order₂ r)) (sym (n .line)) (grown-run w (suc (phase .count) - r .head) (lineAt order₂ r))
+
+            same : take (q .head) order₃ ≡ take (q .head) order₂
+            same = front-same (phase .count) order₂ order₃ r r₃ (q .head) (m .ready) (n .running .ready) grown (omega (arith, ready .waits, grows))
 
   -- ---- round after round
 
@@ -258,19 +220,21 @@ module _ (set request starts old : List ℕ) (phase : Phase) where
           ap (λ (c : Bool). pickLine c (roundsAt w f (roundAt w l)) l) z
 
   -- so many rounds are left at most
-  pub record RoundsAt (order₀ packages₀ uses₀ : List ℕ) (start : Line) (order packages uses : List ℕ) (marked : ℕ) (q : Queue) : Type 0 where
+  pub record RoundsAt (index order₀ packages₀ table₀ : List ℕ) (start : Line) (order packages table : List ℕ) (bound : ℕ) (q : Queue) : Type 0 where
+    pub lookup : Lookup set starts (phase .count) index
     pub order-long : length order₀ ≡ 256
     pub packages-long : length packages₀ ≡ 1024
-    pub uses-long : length uses₀ ≡ 1024
-    pub between : Between (phase .count) set starts order packages uses marked q
+    pub table-long : length table ≡ length table₀
+    pub between : Between phase set starts order packages bound q
     pub fuel : ℕ
     pub enough : isDone (q .halt) ≡ true → phase .count < fuel + q .head
     pub left : roundsAt w (suc (phase .count)) start ≡ roundsAt w fuel (lineAt order q)
 
-  pub rounds-start : (order packages uses : List ℕ) (q : Queue) → Between (phase .count) set starts order packages uses 0 q → RoundsAt order packages uses (lineAt order q) order packages uses 0 q
-  rounds-start order packages uses q h = record { order-long = h .running .ready .long; packages-long = h .running .wide; uses-long = h .used .wide; between = h; fuel = suc (phase .count); enough = λ e. omega arith; left = refl }
+  pub rounds-start : (index order packages table : List ℕ) (q : Queue) → Lookup set starts (phase .count) index → Between phase set starts order packages 0 q
+      → RoundsAt index order packages table (lineAt order q) order packages table 0 q
+  rounds-start index order packages table q k h = record { lookup = k; order-long = h .running .ready .long; packages-long = h .running .wide; table-long = refl; between = h; fuel = suc (phase .count); enough = λ e. omega arith; left = refl }
 
-  module _ (order₀ packages₀ uses₀ : List ℕ) (start : Line) (order packages uses : List ℕ) (marked : ℕ) (q : Queue) (h : RoundsAt order₀ packages₀ uses₀ start order packages uses marked q) (d : Bool) (ed : d ≡ isDone (q .halt)) where
+  module _ (index order₀ packages₀ table₀ : List ℕ) (start : Line) (order packages table : List ℕ) (bound : ℕ) (q : Queue) (h : RoundsAt index order₀ packages₀ table₀ start order packages table bound q) (d : Bool) (ed : d ≡ isDone (q .halt)) where
     was-ready : Ready (phase .count) order q
     was-ready = h .between .running .ready
 
@@ -278,10 +242,16 @@ module _ (set request starts old : List ℕ) (phase : Phase) where
     unfolding lineAt
     rounds-ended e = record { line = sym (h .left ∙ not-done w (h .fuel) (lineAt order q) (sym ed ∙ e)); ready = was-ready }
 
-    pub rounds-between : Between (phase .count) set starts order packages uses marked q
+    pub rounds-lookup : Lookup set starts (phase .count) index
+    rounds-lookup = h .lookup
+
+    pub rounds-between : Between phase set starts order packages bound q
     rounds-between = h .between
 
-    module _ (e : d ≡ true) (order₂ packages₂ uses₂ : List ℕ) (r : Queue) (m : Rounded (phase .count) set starts order₂ packages₂ uses₂ (q .head) r (roundAt w (lineAt order q))) where
+    pub rounds-open : d ≡ true → isDone (q .halt) ≡ true
+    rounds-open e = sym ed ∙ e
+
+    module _ (e : d ≡ true) (order₂ packages₂ : List ℕ) (r : Queue) (m : Rounded phase set starts order₂ packages₂ (q .head) r (roundAt w (lineAt order q))) where
       some-fuel : (n : ℕ) × (h .fuel ≡ suc n)
       some-fuel = go (h .fuel) (h .enough (sym ed ∙ e))
         where
@@ -351,11 +321,12 @@ module _ (set request starts old : List ℕ) (phase : Phase) where
             go : (a b : ℕ) → (b ≡ a → ⊥) → a ≤ b → a < b
             go a b x l = omega (arith, x, l)
 
-        pub rounds-again : RoundsAt order₀ packages₀ uses₀ start order₂ packages₂ uses₂ (q .head) r
-        rounds-again = record {
+        pub rounds-again : (table₂ : List ℕ) → length table₂ ≡ length table → RoundsAt index order₀ packages₀ table₀ start order₂ packages₂ table₂ (q .head) r
+        rounds-again table₂ g = record {
+          lookup = h .lookup;
           order-long = h .order-long;
           packages-long = h .packages-long;
-          uses-long = h .uses-long;
+          table-long = g ∙ h .table-long;
           between = m .between;
           fuel = some-fuel .0;
           enough = λ x. omega (arith, on, h .enough (sym ed ∙ e), some-fuel .1);
@@ -370,8 +341,6 @@ module _ (set request starts old : List ℕ) (phase : Phase) where
             go true = omega (arith, on, was-ready .waits, tail-few (phase .count) order q was-ready, was-ready .few)
             go false = omega (arith, on)
 
-pub ruleset bind-laws = (bind-long, bind-used)
+pub ruleset round-laws = (round-unbound, round-running, round-ran)
 
-pub ruleset round-laws = (round-ready, round-used, round-behind, round-running, round-ran)
-
-pub ruleset rounds-laws = (rounds-start, rounds-ended, rounds-between, rounds-none, rounds-again, rounds-less)
+pub ruleset rounds-laws = (rounds-start, rounds-ended, rounds-lookup, rounds-between, rounds-open, rounds-none, rounds-again, rounds-less)

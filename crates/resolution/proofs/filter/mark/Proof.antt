@@ -10,6 +10,5 @@ mark-spec =
     (λ c κs. search (mark-laws, needs))
     (λ c κs. search (mark-laws, needs))
     (λ c κs. search (mark-laws, needs))
-    (λ c κs. search (mark-laws, needs))
     (λ c. search (mark-laws, needs))
     (λ c. search (mark-laws, needs)))

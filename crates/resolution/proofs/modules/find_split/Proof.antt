@@ -1,4 +1,4 @@
-use Rattle.resolution.proofs.modules.Split.{split-is}
+use Rattle.resolution.proofs.modules.Shared.{test-laws}
 use borrow.Author.Needs.{needs}
 use Rattle.resolution.proofs.modules.find_split.Statement.{statement}
 use Rattle.resolution.proofs.modules.find_split.Tie as tie
@@ -7,6 +7,10 @@ pub find-split-spec : {M : Type 1} → statement M
 find-split-spec =
     tie.close
     (tie.spec
-    (λ c κs. search needs)
-    (λ c κs. search needs)
-    (λ c. search (split-is, needs)))
+    (λ c κs. search (test-laws, needs))
+    (λ c κs. search (test-laws, needs))
+    (λ c κs. search (test-laws, needs))
+    (λ c. search (test-laws, needs))
+    (λ c. search (test-laws, needs))
+    (λ c. search (test-laws, needs))
+    (λ c. search (test-laws, needs)))

@@ -7,10 +7,10 @@ use Rattle.resolution.proofs.readability.add_reads.Statement.{statement
 use Rattle.resolution.proofs.readability.add_reads.Tie as tie
 
 abbrev Inv-loop : tie.InvT-loop
-Inv-loop set request starts count members reads₀ unnamed₀ c₀ reads unnamed c = AddAt (tableNames set starts count) (members .words) request reads₀ reads (unnamed .words) (c .at)
+Inv-loop set request starts count index members reads₀ unnamed₀ c₀ reads unnamed c = AddAt (tableNames set starts count) (members .words) request reads₀ reads (unnamed .words) (c .at)
 
 abbrev μ-loop : tie.MeasureT-loop
-μ-loop set request starts count members reads₀ unnamed₀ c₀ reads unnamed c = length request - c .at
+μ-loop set request starts count index members reads₀ unnamed₀ c₀ reads unnamed c = length request - c .at
 
 pub add-reads-spec : {M : Type 1} → statement M
 add-reads-spec =

@@ -7,10 +7,10 @@ use Rattle.resolution.proofs.readability.required_members.Statement.{st
 use Rattle.resolution.proofs.readability.required_members.Tie as tie
 
 abbrev Inv-loop : tie.InvT-loop
-Inv-loop set starts count members block only row₀ c₀ row c = RequiredAt (tableNames set starts count) (members .words) only block (row .words) (c .at)
+Inv-loop set starts count index members block only row₀ c₀ row c = RequiredAt (tableNames set starts count) (members .words) only block (row .words) (c .at)
 
 abbrev μ-loop : tie.MeasureT-loop
-μ-loop set starts count members block only row₀ c₀ row c = length block - c .at
+μ-loop set starts count index members block only row₀ c₀ row c = length block - c .at
 
 pub required-members-spec : {M : Type 1} → statement M
 required-members-spec =

@@ -5,10 +5,10 @@ use Rattle.resolution.proofs.readability.set_transitive.Statement.{stat
 use Rattle.resolution.proofs.readability.set_transitive.Tie as tie
 
 abbrev Inv-loop : tie.InvT-loop
-Inv-loop set starts count members graph₀ k₀ graph k = GraphAt set starts count (members .words) graph k
+Inv-loop set starts count index members graph₀ k₀ graph k = GraphAt set starts count (members .words) graph k
 
 abbrev μ-loop : tie.MeasureT-loop
-μ-loop set starts count members graph₀ k₀ graph k = 256 - k
+μ-loop set starts count index members graph₀ k₀ graph k = 256 - k
 
 pub set-transitive-spec : {M : Type 1} → statement M
 set-transitive-spec =

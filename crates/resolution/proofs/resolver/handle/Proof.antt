@@ -11,7 +11,7 @@ handle-spec =
     (λ c. search (handle-laws, needs))
     (λ c κs. search (handle-laws, needs))
     (λ c. search (handle-laws, needs))
-    (λ c κs. search (handle-laws, needs))
+    (λ c κs. (c .before .before .before .before .before .before .before .before .before .before .before .before .before .before .before .before .pre .0, (search (handle-laws, c .before .before .before .before .before .before .before .before .before .before .before .before .before .before .before .before .pre, needs), (search (handle-laws, c .before .before .before .before .before .before .before .before .before .before .before .before .before .before .before .before .pre, needs), search (handle-laws, c .before .before .before .before .before .before .before .before .before .before .before .before .before .before .before .before .pre, needs)))))
     (λ c. search (handle-laws, needs))
     (λ c. search (handle-laws, needs))
     (λ c. search (handle-laws, needs))

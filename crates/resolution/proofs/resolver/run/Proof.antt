@@ -7,10 +7,10 @@ use Rattle.resolution.proofs.resolver.run.Statement.{statement}
 use Rattle.resolution.proofs.resolver.run.Tie as tie
 
 abbrev Inv-loop : tie.InvT-loop
-Inv-loop set request starts old phase order₀ packages₀ line₀ order packages line = RunAt set request starts old phase (lineAt order₀ line₀) (line₀ .head) order packages line
+Inv-loop set request starts old phase index order₀ packages₀ line₀ order packages line = RunAt set request starts old phase index (lineAt order₀ line₀) (line₀ .head) order packages line
 
 abbrev μ-loop : tie.MeasureT-loop
-μ-loop set request starts old phase order₀ packages₀ line₀ order packages line = (257 - line .head) + one (isOpen (line .halt))
+μ-loop set request starts old phase index order₀ packages₀ line₀ order packages line = (257 - line .head) + one (isOpen (line .halt))
 
 pub run-spec : {M : Type 1} → statement M
 run-spec =

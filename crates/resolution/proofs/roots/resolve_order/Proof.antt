@@ -9,7 +9,7 @@ resolve-order-spec =
     (tie.spec
     (λ c. search (order-laws, needs))
     (λ c. search (order-laws, needs))
-    (λ c κs. search (order-laws, needs))
+    (λ c κs. (search needs, (search (order-laws, needs), (search (order-laws, needs), (search (order-laws, needs), search (order-laws, needs))))))
     (λ c. search (order-laws, needs))
     (λ c. search (order-laws, needs))
     (λ c. search (order-laws, needs))

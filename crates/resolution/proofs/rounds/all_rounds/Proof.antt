@@ -1,4 +1,4 @@
-use Rattle.resolution.proofs.roots.Laws.{uses-fresh}
+use Rattle.resolution.proofs.rounds.Laws.{rounds-fresh}
 use borrow.Author.Needs.{needs}
 use Rattle.resolution.proofs.rounds.all_rounds.Statement.{statement}
 use Rattle.resolution.proofs.rounds.all_rounds.Tie as tie
@@ -8,7 +8,7 @@ all-rounds-spec =
     tie.close
     (tie.spec
     (λ c. search needs)
-    (λ c κs. search (uses-fresh, needs))
+    (λ c κs. search (rounds-fresh, needs))
     (λ c. search needs)
     (λ c. search needs)
     (λ c. search needs))

@@ -1,4 +1,4 @@
-use Rattle.resolution.proofs.rounds.Providers.{offer-laws, offer-pass}
+use Rattle.resolution.proofs.rounds.Providers.{offer-laws}
 use borrow.Author.Needs.{needs}
 use Rattle.resolution.proofs.rounds.offer.Statement.{statement}
 use Rattle.resolution.proofs.rounds.offer.Tie as tie
@@ -8,11 +8,8 @@ offer-spec =
     tie.close
     (tie.spec
     (λ c κs. search (offer-laws, needs))
-    (λ c. search (offer-laws, needs))
-    (λ c. search (offer-laws, needs))
-    (λ c κs. search (offer-laws, needs))
     (λ c κs. search (offer-laws, needs))
     (λ c. search (offer-laws, needs))
     (λ c. search (offer-laws, needs))
     (λ c. search (offer-laws, needs))
-    (λ c. search offer-pass))
+    (λ c. search (offer-laws, needs)))

@@ -1,14 +1,14 @@
-use borrow.Author.Needs.{needs}
 use Prim.Native.Nat.{_-_}
 use Rattle.resolution.proofs.rounds.Providers.{ProvideAt, provide-laws}
+use borrow.Author.Needs.{needs}
 use Rattle.resolution.proofs.rounds.provide.Statement.{statement}
 use Rattle.resolution.proofs.rounds.provide.Tie as tie
 
 abbrev Inv-loop : tie.InvT-loop
-Inv-loop set starts phase order₀ uses n i₀ line₀ order i line = ProvideAt set starts uses phase order₀ line₀ n i order line
+Inv-loop set starts phase order₀ from table services to i₀ line₀ order i line = ProvideAt set starts phase from table services order₀ line₀ to i order line
 
 abbrev μ-loop : tie.MeasureT-loop
-μ-loop set starts phase order₀ uses n i₀ line₀ order i line = phase .count - i
+μ-loop set starts phase order₀ from table services to i₀ line₀ order i line = phase .count - i
 
 pub provide-spec : {M : Type 1} → statement M
 provide-spec =

@@ -1,7 +1,7 @@
-use Rattle.resolution.proofs.rounds.Laws.{done-laws}
+use Rattle.resolution.proofs.resolver.Turns.{done-laws}
 use borrow.Author.Needs.{needs}
-use Rattle.resolution.proofs.rounds.is_done.Statement.{statement}
-use Rattle.resolution.proofs.rounds.is_done.Tie as tie
+use Rattle.resolution.proofs.resolver.is_done.Statement.{statement}
+use Rattle.resolution.proofs.resolver.is_done.Tie as tie
 
 pub is-done-spec : {M : Type 1} → statement M
 is-done-spec =
