@@ -26,3 +26,4 @@ pub mod WordBits
 pub mod Words
 pub mod PackageOwner
 pub mod Absence
+pub mod Count

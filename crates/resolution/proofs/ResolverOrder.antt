@@ -60,7 +60,7 @@ differ-last (p ∷ ps) i d n = and-i (not-f new) (differ-last ps i (and-r (not (
         (λ h. h)
 
 -- different positions below n are no more than n
-few : (n : ℕ) (ps : List ℕ) → ((p : ℕ) → Mem p ps → p < n) → allDiffer ps ≡ true → length ps ≤ countBelow (λ k. isOneOf k ps) n
+pub few : (n : ℕ) (ps : List ℕ) → ((p : ℕ) → Mem p ps → p < n) → allDiffer ps ≡ true → length ps ≤ countBelow (λ k. isOneOf k ps) n
 unfolding allDiffer
 few n [] w d = omega arith
 few n (p ∷ ps) w d =

@@ -2,11 +2,11 @@
 ghost use mathlib.Core.Path.{_≡_};
 ghost use Prim.Native.Nat.{_<_, _≤_};
 ghost use lib.ListN.{length};
-ghost use Rattle.resolution.specs.Row.{FirstFrom};
+ghost use Rattle.resolution.specs.Row.{holds, FirstFrom};
 ghost use Rattle.resolution.specs.Graph.{edge, lacks, AddedEdge, Lacking, Collected, ReachedFrom};
 use crate::row::Row;
-use crate::row::next_in;
 use crate::row::with;
+use crate::word::next_one;
 use crate::word::word_has;
 use crate::word::word_with;
 
@@ -36,6 +36,24 @@ pub fn set_edge(g: &mut [u64], i: usize, j: usize)
             return;
         }
     }
+}
+
+// The first position from k on that the row holds, 256 where there is none. A word with none costs one test.
+fn next_in(row: Row, k: usize) -> usize
+    requires { ⌜ k ≤ 256 ⌝ }
+    ensures { λ r. ⌜ FirstFrom (holds (row .words)) k 256 r ⌝ }
+{
+    let words = row.words;
+    let mut at = k;
+    while at < 256 {
+        let q = at / 64;
+        let b = next_one(words[q], at % 64);
+        if b < 64 {
+            return q * 64 + b;
+        }
+        at = q * 64 + 64;
+    }
+    256
 }
 
 // The positions that an edge from m leads to and that out does not hold.

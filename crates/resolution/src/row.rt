@@ -3,8 +3,7 @@ ghost use mathlib.Core.Path.{_≡_};
 ghost use Prim.Native.Nat.{_<_, _≤_};
 ghost use lib.Dec.{eqb};
 ghost use lib.Count;
-ghost use Rattle.resolution.specs.Row.{holds, size, Empty, United, Added, FirstFrom};
-use crate::word::next_one;
+ghost use Rattle.resolution.specs.Row.{holds, size, Empty, United, Added};
 use crate::word::word_has;
 use crate::word::word_with;
 
@@ -77,22 +76,4 @@ pub fn count(row: Row) -> usize
 {
     let words = row.words;
     ones(words[0]) + ones(words[1]) + ones(words[2]) + ones(words[3])
-}
-
-// The first position from k on that the row holds, 256 where there is none. A word with none costs one test.
-pub fn next_in(row: Row, k: usize) -> usize
-    requires { ⌜ k ≤ 256 ⌝ }
-    ensures { λ r. ⌜ FirstFrom (holds (row .words)) k 256 r ⌝ }
-{
-    let words = row.words;
-    let mut at = k;
-    while at < 256 {
-        let q = at / 64;
-        let b = next_one(words[q], at % 64);
-        if b < 64 {
-            return q * 64 + b;
-        }
-        at = q * 64 + 64;
-    }
-    256
 }

@@ -37,7 +37,7 @@ count-add p m (suc n) =
     ap (countBelow p) (add-suc m n) ∙ count-suc p (m + n)
     ∙ omega (arith, count-add p m n, count-suc (λ k. p (m + k)) n)
 
-one-le : (b : Bool) → one b ≤ 1
+pub one-le : (b : Bool) → one b ≤ 1
 unfolding one
 one-le true = omega arith
 one-le false = omega arith

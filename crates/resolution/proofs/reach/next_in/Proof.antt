@@ -1,8 +1,8 @@
 use Prim.Native.Nat.{_-_}
 use borrow.Author.Needs.{needs}
 use Rattle.resolution.proofs.row.Laws.{NextAt, next-laws}
-use Rattle.resolution.proofs.row.next_in.Statement.{statement}
-use Rattle.resolution.proofs.row.next_in.Tie as tie
+use Rattle.resolution.proofs.reach.next_in.Statement.{statement}
+use Rattle.resolution.proofs.reach.next_in.Tie as tie
 
 abbrev Inv-loop : tie.InvT-loop
 Inv-loop k words at₀ at = NextAt words k at

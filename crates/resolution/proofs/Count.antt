@@ -1,0 +1,99 @@
+-- The number of ones in the member words is the number of modules resolved.
+use mathlib.Core.Path.{_≡_, refl, sym, ap, _∙_, subst}
+use Prim.Native.Nat.{ℕ, zero, suc, _≤_, _<_}
+use native.Mathlib.Omega.{arith}
+use mathlib.Core.Bool.{Bool, true, false, _||_}
+use mathlib.Core.List.{List, [], _∷_, map}
+use lib.Dec.{eqb, ltb}
+use lib.ListN.{length, length-map}
+use borrow.Author.Tests.{eqb-true, ltb-true, ltb-false, ne-eqb}
+use Rattle.records.specs.Descriptor.{Descriptor}
+use Rattle.records.specs.Request.{requestOf, isPermitted}
+use Rattle.records.specs.Set.{modules, checkSet, distinct}
+use Rattle.records.specs.declared.set.SetAnswer.the-variants.{Modules}
+use Rattle.records.proofs.set.Blocks.{GoodSet, good-set}
+use Rattle.resolution.specs.Lists.{Mem, any}
+use Rattle.resolution.specs.Loop.{done}
+use Rattle.resolution.specs.Positions.{moduleAt}
+use Rattle.resolution.specs.Resolution.{State, hasModule, names, resolve}
+use Rattle.resolution.specs.Resolve.{configurationOf, memberAt, words}
+use Rattle.resolution.specs.Resolver.{isOneOf, resolveAt, startOn}
+use Rattle.resolution.specs.Row.{countBelow, holds, one, size}
+use Rattle.resolution.proofs.Find.{has-find, unique-of}
+use Rattle.resolution.proofs.Lists.{by}
+use Rattle.resolution.proofs.Positions.{at-mem, has-at, index-at}
+use Rattle.resolution.proofs.ResolverOrder.{allDiffer, few, one-of-out}
+use Rattle.resolution.proofs.ResolverWhole.{Accepts, resolver-accepts}
+use Rattle.resolution.proofs.Sets.{set-distinct, set-length}
+use Rattle.resolution.proofs.WordBits.{holds-words}
+use Rattle.resolution.proofs.row.Counts.{count-none, count-same, count-suc, count-zero, one-le}
+
+-- ---- how many positions are in a list
+
+-- one position more counts at most one more
+count-or : (p : ℕ) (q : ℕ → Bool) (n : ℕ) → countBelow (λ k. eqb k p || q k) n ≤ suc (countBelow q n)
+count-or p q zero = omega (arith, count-zero (λ k. eqb k p || q k))
+count-or p q (suc n) = turned (eqb n p) refl (count-or p q n)
+  where
+    turned : (b : Bool) → eqb n p ≡ b → countBelow (λ k. eqb k p || q k) n ≤ suc (countBelow q n)
+        → countBelow (λ k. eqb k p || q k) (suc n) ≤ suc (countBelow q (suc n))
+    turned true e below =
+        let i : n ≡ p = eqb-true n p e in
+        let same : countBelow (λ k. eqb k p || q k) n ≡ countBelow q n
+        = count-same (λ k. eqb k p || q k) q n (λ k l. ap (λ (b : Bool). b || q k) (ne-eqb k p (λ j. absurd (omega arith)))) in
+        omega (arith, count-suc (λ k. eqb k p || q k) n, count-suc q n, same, one-le (eqb n p || q n))
+    turned false e below =
+        omega (arith, count-suc (λ k. eqb k p || q k) n, count-suc q n, below, ap (λ (b : Bool). one (b || q n)) e)
+
+-- no more than the list is long
+count-most : (n : ℕ) (ps : List ℕ) → countBelow (λ k. isOneOf k ps) n ≤ length ps
+unfolding isOneOf any
+count-most n [] = omega (arith, count-none (λ k. isOneOf k []) n (λ k l. refl))
+count-most n (p ∷ ps) = omega (arith, count-or p (λ k. isOneOf k ps) n, count-most n ps)
+
+-- different positions below n are as many as the list is long
+count-list : (n : ℕ) (ps : List ℕ) → ((p : ℕ) → Mem p ps → p < n) → allDiffer ps ≡ true → countBelow (λ k. isOneOf k ps) n ≡ length ps
+count-list n ps w d = omega (arith, few n ps w d, count-most n ps)
+
+-- ---- the member words
+
+module _ (s : List Descriptor) (d : distinct (names s) ≡ true) (ps : List ℕ) (within : (p : ℕ) → Mem p ps → p < length s) where
+  -- the members are the positions
+  member-is : (k : ℕ) → memberAt s (map (moduleAt s) ps) k ≡ isOneOf k ps
+  unfolding memberAt isOneOf
+  member-is k = by (ltb k (length s)) (λ y. rw y (here (ltb-true k (length s) y))) (λ y. rw y (past (ltb-false k (length s) y)))
+    where
+      here : k < length s → hasModule (map (moduleAt s) ps) (moduleAt s k .name) ≡ isOneOf k ps
+      here l =
+          let has : hasModule s (moduleAt s k .name) ≡ true = has-find (moduleAt s k .name) s (moduleAt s k) (unique-of s d (moduleAt s k) (at-mem s k l)) in
+          has-at s (moduleAt s k .name) d has ps within ∙ ap (λ (i : ℕ). any (eqb i) ps) (index-at s k d l)
+
+      past : length s ≤ k → false ≡ isOneOf k ps
+      past l = sym (by (isOneOf k ps) (λ y. absurd (omega (arith, within k (one-of-out k ps y)))) (λ y. y))
+
+  -- the words hold as many as there are positions
+  size-is : length s ≤ 256 → allDiffer ps ≡ true → size (words (memberAt s (map (moduleAt s) ps)) 4) ≡ length ps
+  unfolding size
+  size-is long once =
+      count-same (holds (words (memberAt s (map (moduleAt s) ps)) 4)) (λ k. isOneOf k ps) 256
+      (λ k l. holds-words (memberAt s (map (moduleAt s) ps)) 4 k (omega arith) ∙ member-is k)
+      ∙ count-list 256 ps (λ p m. omega (arith, within p m)) once
+
+-- ---- the whole
+
+-- the number of ones in the member words is the number of modules resolved
+pub count-resolved : (s q : List ℕ) (n : ℕ) (t : List ℕ) → checkSet s ≡ record { answer = Modules n; starts = t }
+    → (st : State) → resolve (modules s) (requestOf q) ≡ done st
+    → size (configurationOf (modules s) (requestOf q) (st .resolved) .members) ≡ length (st .resolved)
+unfolding configurationOf
+count-resolved s q n t e st h =
+    let g : GoodSet s n t = good-set s n t e in
+    let long : length (modules s) ≡ n = set-length s n t g in
+    let permits : ℕ → Bool = (λ i. isPermitted (requestOf q) (moduleAt (modules s) i .name)) in
+    let ws : List ℕ = words permits 4 in
+    let a : Accepts s n (resolveAt (startOn s q n t ws)) (st .resolved)
+    = resolver-accepts s q n t e ws (λ i l. holds-words permits 4 i (omega (arith, g .few))) st h in
+    let ps : List ℕ = resolveAt (startOn s q n t ws) .order in
+    subst (λ (ms : List Descriptor). size (words (memberAt (modules s) ms) 4) ≡ length ms) (sym (a .modules-are))
+    (size-is (modules s) (set-distinct s n t g) ps (λ p m. omega (arith, long, a .within p m)) (omega (arith, long, g .few)) (a .once)
+    ∙ sym (length-map ps (moduleAt (modules s))))
