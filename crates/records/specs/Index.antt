@@ -1,4 +1,4 @@
--- An index of names: for each number below 256, the positions of the names with that number, from the last to the first.
+-- An index of names: for each number below 1,024, the positions of the names with that number, from the last to the first.
 use Prim.Native.Nat.{ℕ, zero, suc, _+_, _*_, _/_, _%_, _<_}
 use mathlib.Core.Path.{_≡_}
 use mathlib.Core.List.{List, [], _∷_}
@@ -19,9 +19,9 @@ hashFrom a b c (x ∷ l) = hashFrom (a + x) (b + (a + x)) (c + (b + (a + x))) l
 unfoldable pub hashOf : List ℕ → ℕ
 hashOf name = hashFrom 0 0 0 (take 255 name)
 
--- the same below 256
+-- the same below 1,024
 unfoldable pub numberOf : List ℕ → ℕ
-numberOf name = hashOf name / 65536 % 256
+numberOf name = hashOf name / 65536 % 1024
 
 -- one more than the last of the first n positions whose name has number h, 0 where there is none
 unfoldable pub lastOf : List (List ℕ) → ℕ → ℕ → ℕ
@@ -30,6 +30,6 @@ lastOf names h (suc n) = cond (eqb (numberOf (getD names n [])) h) (suc n) (last
 
 -- the index has the last position of each number, and for each position the one before it with the same number
 pub record Indexed (names : List (List ℕ)) (index : List ℕ) : Type 0 where
-  pub long : length index ≡ 512
-  pub last : (h : ℕ) → h < 256 → getD index h 0 ≡ lastOf names h (length names)
-  pub before : (i : ℕ) → i < length names → getD index (256 + i) 0 ≡ lastOf names (numberOf (getD names i [])) i
+  pub long : length index ≡ 1280
+  pub last : (h : ℕ) → h < 1024 → getD index h 0 ≡ lastOf names h (length names)
+  pub before : (i : ℕ) → i < length names → getD index (1024 + i) 0 ≡ lastOf names (numberOf (getD names i [])) i

@@ -1,5 +1,5 @@
-// An index of a set's modules by their names: for each of 256 numbers that are made from names, the positions with that number.
-// `index` has 512 entries. Entry h is one more than the last position with number h, 0 where there is none; entry 256 + i is one more
+// An index of a set's modules by their names: for each of 1,024 numbers that are made from names, the positions with that number.
+// `index` has 1,280 entries. Entry h is one more than the last position with number h, 0 where there is none; entry 1,024 + i is one more
 // than the position before i with the same number as i, 0 where there is none.
 ghost use mathlib.Core.Path.{_≡_};
 ghost use mathlib.Core.List.{[], map};
@@ -51,12 +51,12 @@ pub fn hash(name: &[u8]) -> usize
     (s.a + s.b * 509 + s.c * 65521) * 40503
 }
 
-// The same below 256.
+// The same below 1,024.
 fn number(name: &[u8]) -> usize
     ensures { λ r. ⌜ r ≡ numberOf (now (name .entry)) ⌝ }
-    ensures { λ r. ⌜ r < 256 ⌝ }
+    ensures { λ r. ⌜ r < 1024 ⌝ }
 {
-    hash(name) / 65536 % 256
+    hash(name) / 65536 % 1024
 }
 
 // Adds the module at position i, where those before it are in the index.
@@ -67,7 +67,7 @@ pub fn add(set: &[u8], starts: &[usize], index: &mut [u16], i: usize)
     ensures { λ _. ⌜ Indexed (map (nameAt (now (set .entry))) (take (i + 1) (now (starts .entry)))) (now (index .exit)) ⌝ }
 {
     let h = number(name_at(set, starts[i]));
-    index[256 + i] = index[h];
+    index[1024 + i] = index[h];
     index[h] = (i + 1) as u16;
 }
 
@@ -93,7 +93,7 @@ pub fn find_in(set: &[u8], starts: &[usize], count: usize, index: &[u16], name: 
     while 0 < k {
         let i = k - 1;
         found = better(found, i, same(name_at(set, starts[i]), name));
-        k = index[256 + i] as usize;
+        k = index[1024 + i] as usize;
     }
     found
 }

@@ -11,17 +11,21 @@ use crate::bytes::head;
 use crate::bytes::same;
 use crate::bytes::tail;
 
+// Whether `good` holds and a is at most b.
+fn and_le(good: bool, a: u8, b: u8) -> bool
+    ensures { λ r. ⌜ r ≡ (good && leb a b) ⌝ }
+{
+    if a <= b {
+        return good;
+    }
+    false
+}
+
 // Whether `good` holds and b is from 0x21 to 0x7E.
 fn and_printable(good: bool, b: u8) -> bool
     ensures { λ r. ⌜ r ≡ (good && (leb 0x21 b && leb b 0x7E)) ⌝ }
 {
-    if b < 0x21 {
-        return false;
-    }
-    if 0x7E < b {
-        return false;
-    }
-    good
+    and_le(and_le(good, 0x21, b), b, 0x7E)
 }
 
 // Whether every byte of s is from 0x21 to 0x7E. All are read, which takes several at once.

@@ -155,7 +155,7 @@ pub fn check_set(set: &[u8]) -> Checked
     }
     let mut c = Cursor { at: 0 };
     let mut starts = [0usize; 257];
-    let mut index = [0u16; 512];
+    let mut index = [0u16; 1280];
     let mut count: usize = 0;
     let mut main = false;
     loop {

@@ -35,7 +35,7 @@ fn resolve_checked(set: &[u8], request: &[u8], starts: &[usize], count: usize) -
     requires { ⌜ length (now request) ≤ 65535 ⌝ }
     ensures { λ r. ⌜ r ≡ told (now (set .entry)) (now (request .entry)) (resolution (modules (now (set .entry))) (requestOf (now (request .entry)))) ⌝ }
 {
-    let mut index = [0u16; 512];
+    let mut index = [0u16; 1280];
     add_all(set, starts, count, &mut index);
     let row = permitted(set, request, starts, count);
     let done = resolve_order(set, request, starts, count, row, &index);

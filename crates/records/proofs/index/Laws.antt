@@ -68,11 +68,11 @@ hash-is name t a b c et e = sym e ∙ rw et
 
 pub ruleset hash-laws = (hash-short, hash-is)
 
-pub number-is : (name : List ℕ) (n : ℕ) → n ≡ hashOf name → n / 65536 % 256 ≡ numberOf name
+pub number-is : (name : List ℕ) (n : ℕ) → n ≡ hashOf name → n / 65536 % 1024 ≡ numberOf name
 unfolding numberOf
 number-is name n e = rw e
 
-pub number-fits : (n : ℕ) → n / 65536 % 256 < 256
+pub number-fits : (n : ℕ) → n / 65536 % 1024 < 1024
 number-fits n = mod-lt (n / 65536) (omega arith)
 
 pub ruleset number-laws = (number-is, number-fits)
@@ -130,24 +130,24 @@ last-skips names name (suc n) l = go (eqb (numberOf (getD names n [])) (numberOf
 
 -- ---- the index of no names
 
-pub indexed-none : Indexed [] (replicate 512 0)
+pub indexed-none : Indexed [] (replicate 1280 0)
 unfolding lastOf
-indexed-none = record { long = refl; last = λ h l. getD-replicate 512 h 0 0 (omega arith); before = λ i l. absurd (omega arith) }
+indexed-none = record { long = refl; last = λ h l. getD-replicate 1280 h 0 0 (omega arith); before = λ i l. absurd (omega arith) }
 
 -- ---- one more name
 
 -- the index with one more name, m, of number h
-indexed-more : (names : List (List ℕ)) (index : List ℕ) (m : List ℕ) (i h : ℕ) → length names ≡ i → i < 256 → h < 256 → h ≡ numberOf m → Indexed names index
-    → Indexed (names ++ (m ∷ [])) (set (set index (256 + i) (getD index h 0)) h (i + 1))
+indexed-more : (names : List (List ℕ)) (index : List ℕ) (m : List ℕ) (i h : ℕ) → length names ≡ i → i < 256 → h < 1024 → h ≡ numberOf m → Indexed names index
+    → Indexed (names ++ (m ∷ [])) (set (set index (1024 + i) (getD index h 0)) h (i + 1))
 unfolding lastOf
 indexed-more names index m i h ei li lh eh x = record {
-  long = length-set once h (i + 1) ∙ (length-set index (256 + i) (getD index h 0) ∙ x .long);
+  long = length-set once h (i + 1) ∙ (length-set index (1024 + i) (getD index h 0) ∙ x .long);
   last = λ g lg. rw longer (last-go g lg (eqb (numberOf (getD (names ++ (m ∷ [])) i [])) g) refl);
   before = λ j lj. before-go j (rw longer at lj) (eqb j i) refl;
 }
   where
     once : List ℕ
-    once = set index (256 + i) (getD index h 0)
+    once = set index (1024 + i) (getD index h 0)
 
     longer : length (names ++ (m ∷ [])) ≡ suc i
     longer = length-append names (m ∷ []) ∙ omega (arith, ei)
@@ -156,9 +156,9 @@ indexed-more names index m i h ei li lh eh x = record {
     here = rw (← ei) (getD-append-seam names m [] [])
 
     in-once : h < length once
-    in-once = rw (length-set index (256 + i) (getD index h 0), x .long) (omega (arith, lh))
+    in-once = rw (length-set index (1024 + i) (getD index h 0), x .long) (omega (arith, lh))
 
-    last-go : (g : ℕ) → g < 256 → (t : Bool) → eqb (numberOf (getD (names ++ (m ∷ [])) i [])) g ≡ t
+    last-go : (g : ℕ) → g < 1024 → (t : Bool) → eqb (numberOf (getD (names ++ (m ∷ [])) i [])) g ≡ t
         → getD (set once h (i + 1)) g 0 ≡ cond t (suc i) (lastOf (names ++ (m ∷ [])) g i)
     last-go g lg true et =
         let q : g ≡ h = sym (eqb-true (numberOf (getD (names ++ (m ∷ [])) i [])) g et) ∙ (ap numberOf here ∙ sym eh) in
@@ -166,21 +166,21 @@ indexed-more names index m i h ei li lh eh x = record {
     last-go g lg false et =
         let d : g ≡ h → ⊥ = λ e. eqb-false (numberOf (getD (names ++ (m ∷ [])) i [])) g et (ap numberOf here ∙ (sym eh ∙ sym e)) in
         getD-set-other once h g (i + 1) 0 d
-        ∙ (getD-set-other index (256 + i) g (getD index h 0) 0 (omega (arith, lg))
+        ∙ (getD-set-other index (1024 + i) g (getD index h 0) 0 (omega (arith, lg))
         ∙ (x .last g lg ∙ (ap (lastOf names g) ei ∙ sym (last-front names (m ∷ []) g i (omega (arith, ei))))))
 
     before-go : (j : ℕ) → j < suc i → (t : Bool) → eqb j i ≡ t
-        → getD (set once h (i + 1)) (256 + j) 0 ≡ lastOf (names ++ (m ∷ [])) (numberOf (getD (names ++ (m ∷ [])) j [])) j
+        → getD (set once h (i + 1)) (1024 + j) 0 ≡ lastOf (names ++ (m ∷ [])) (numberOf (getD (names ++ (m ∷ [])) j [])) j
     before-go j lj true et =
         rw (eqb-true j i et, here, ← eh)
-        (getD-set-other once h (256 + i) (i + 1) 0 (omega (arith, lh))
-        ∙ (getD-set-same index (256 + i) (getD index h 0) 0 (omega (arith, x .long, li))
+        (getD-set-other once h (1024 + i) (i + 1) 0 (omega (arith, lh))
+        ∙ (getD-set-same index (1024 + i) (getD index h 0) 0 (omega (arith, x .long, li))
         ∙ (x .last h lh ∙ (ap (lastOf names h) ei ∙ sym (last-front names (m ∷ []) h i (omega (arith, ei)))))))
     before-go j lj false et =
         let d : j ≡ i → ⊥ = eqb-false j i et in
         let l : j < length names = omega (arith, lj, ei) in
-        getD-set-other once h (256 + j) (i + 1) 0 (omega (arith, lh))
-        ∙ (getD-set-other index (256 + i) (256 + j) (getD index h 0) 0 (omega arith)
+        getD-set-other once h (1024 + j) (i + 1) 0 (omega (arith, lh))
+        ∙ (getD-set-other index (1024 + i) (1024 + j) (getD index h 0) 0 (omega arith)
         ∙ (x .before j l
         ∙ sym (rw (List·getD-append names (m ∷ []) [] j l) (last-front names (m ∷ []) (numberOf (getD names j [])) j (omega arith)))))
 
@@ -192,11 +192,11 @@ names-long : (s t : List ℕ) (count : ℕ) → count ≤ length t → length (m
 names-long s t count l = length-map (take count t) (nameAt s) ∙ length-take-le count t l
 
 module _ (s t index : List ℕ) (i : ℕ) (few : i < 256) (l : i < length t) (x : Indexed (map (nameAt s) (take i t)) index) where
-  pub add-in : (h v : ℕ) → h < 256 → h < length (set index (256 + i) v)
-  add-in h v lh = rw (length-set index (256 + i) v, x .long) (omega (arith, lh))
+  pub add-in : (h v : ℕ) → h < 1024 → h < length (set index (1024 + i) v)
+  add-in h v lh = rw (length-set index (1024 + i) v, x .long) (omega (arith, lh))
 
-  pub add-is : (m : List ℕ) (h : ℕ) → m ≡ nameAt s (getD t i 0) → h ≡ numberOf m → h < 256
-      → Indexed (map (nameAt s) (take (i + 1) t)) (set (set index (256 + i) (getD index h 0)) h (i + 1))
+  pub add-is : (m : List ℕ) (h : ℕ) → m ≡ nameAt s (getD t i 0) → h ≡ numberOf m → h < 1024
+      → Indexed (map (nameAt s) (take (i + 1) t)) (set (set index (1024 + i) (getD index h 0)) h (i + 1))
   add-is m h em eh lh =
       let w : take (i + 1) t ≡ take i t ++ (getD t i 0 ∷ []) = rw add-one (take-suc t i 0 l) in
       rw (w, map-last s (take i t) (getD t i 0), ← em)
@@ -226,7 +226,7 @@ pub record Sought (names : List (List ℕ)) (index name : List ℕ) (found : Fou
   pub has : (j : ℕ) → k ≡ suc j → numberOf (getD names j []) ≡ numberOf name
   pub first : found ≡ findName (drop k names) name k
 
-sought-start : (names : List (List ℕ)) (index name : List ℕ) → Indexed names index → (h : ℕ) → h ≡ numberOf name → h < 256 → Sought names index name Nothing (getD index h 0)
+sought-start : (names : List (List ℕ)) (index name : List ℕ) → Indexed names index → (h : ℕ) → h ≡ numberOf name → h < 1024 → Sought names index name Nothing (getD index h 0)
 unfolding findName
 sought-start names index name x h eh lh = record {
   by = x;
@@ -236,10 +236,10 @@ sought-start names index name x h eh lh = record {
 }
 
 module _ (names : List (List ℕ)) (index name : List ℕ) (found : Found) (i : ℕ) (h : Sought names index name found (suc i)) where
-  sought-next : getD index (256 + i) 0 ≡ lastOf names (numberOf name) i
+  sought-next : getD index (1024 + i) 0 ≡ lastOf names (numberOf name) i
   sought-next = h .by .before i (h .within) ∙ ap (λ (n : ℕ). lastOf names n i) (h .has i refl)
 
-  sought-more : Sought names index name (pickFound (sameBytes (getD names i []) name) (At i) found) (getD index (256 + i) 0)
+  sought-more : Sought names index name (pickFound (sameBytes (getD names i []) name) (At i) found) (getD index (1024 + i) 0)
   unfolding findName
   sought-more = record {
     by = h .by;
@@ -256,7 +256,7 @@ pub record SeekAt (s t : List ℕ) (count : ℕ) (index name : List ℕ) (found 
   pub sought : Sought (map (nameAt s) (take count t)) index name found k
 
 module _ (s t index name : List ℕ) (count : ℕ) (few : count ≤ 256) (it : count ≤ length t) (x : Indexed (map (nameAt s) (take count t)) index) where
-  pub seek-start : (h : ℕ) → h ≡ numberOf name → h < 256 → SeekAt s t count index name Nothing (getD index h 0)
+  pub seek-start : (h : ℕ) → h ≡ numberOf name → h < 1024 → SeekAt s t count index name Nothing (getD index h 0)
   seek-start h eh lh =
       let q : Sought (map (nameAt s) (take count t)) index name Nothing (getD index h 0) = sought-start (map (nameAt s) (take count t)) index name x h eh lh in
       record { few = few; in-table = it; within = omega (arith, q .within, names-long s t count it); sought = q }
@@ -265,17 +265,17 @@ module _ (s t : List ℕ) (count : ℕ) (index name : List ℕ) (found : Found) 
   pub seek-place : 0 < k → k - 1 < length t
   seek-place l = omega (arith, h .within, h .in-table)
 
-  pub seek-chain : 0 < k → 256 + (k - 1) < length index
+  pub seek-chain : 0 < k → 1024 + (k - 1) < length index
   seek-chain l = omega (arith, h .within, h .few, h .sought .by .long)
 
   here : 0 < k → Sought (map (nameAt s) (take count t)) index name found (suc (k - 1))
   here l = let e : suc (k - 1) ≡ k = omega arith in rw e (h .sought)
 
-  pub seek-less : 0 < k → getD index (256 + (k - 1)) 0 < k
+  pub seek-less : 0 < k → getD index (1024 + (k - 1)) 0 < k
   seek-less l = omega (arith, sought-next (map (nameAt s) (take count t)) index name found (k - 1) (here l), last-le (map (nameAt s) (take count t)) (numberOf name) (k - 1))
 
   pub seek-more : (m : List ℕ) (hit : Bool) (f : Found) → 0 < k → m ≡ nameAt s (getD t (k - 1) 0) → hit ≡ sameBytes m name → f ≡ pickFound hit (At (k - 1)) found
-      → SeekAt s t count index name f (getD index (256 + (k - 1)) 0)
+      → SeekAt s t count index name f (getD index (1024 + (k - 1)) 0)
   seek-more m hit f l em eh ef =
       let q : k - 1 < length (take count t) = rw (length-take-le count t (h .in-table)) (omega (arith, h .within)) in
       let w : getD (map (nameAt s) (take count t)) (k - 1) [] ≡ m = name-of s (take count t) (k - 1) q ∙ rw (getD-take count t (k - 1) 0 (omega (arith, h .within)), em) in
@@ -293,7 +293,7 @@ pub record AddAt (s t : List ℕ) (count : ℕ) (index₀ index : List ℕ) (i :
   pub few : count ≤ 256
   pub in-table : count ≤ length t
   pub within : i ≤ count
-  pub long : length index₀ ≡ 512
+  pub long : length index₀ ≡ 1280
   pub by : Indexed (map (nameAt s) (take i t)) index
 
 pub all-start : (s t : List ℕ) (count : ℕ) (index : List ℕ) → count ≤ 256 → count ≤ length t → Indexed [] index → AddAt s t count index index 0

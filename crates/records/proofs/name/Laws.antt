@@ -23,16 +23,16 @@ name-told s t r n en et er = cc
 pub name-short : (t r : List ℕ) (n : ℕ) → n < 256 → r ≡ take n t → length r ≤ 255
 name-short t r n l e = rw (e, length-take) (omega arith)
 
-pub byte-low : (good : Bool) (b : ℕ) → b < 0x21 → false ≡ (good && (leb 0x21 b && leb b 0x7E))
-byte-low good b l = sym (rw (lt-leb 0x21 b l) (and-false good))
+pub le-true : (good : Bool) (a b : ℕ) → a ≤ b → good ≡ (good && leb a b)
+le-true good a b l = sym (rw (le-leb a b l) (and-true good))
 
-pub byte-high : (good : Bool) (b : ℕ) → 0x7E < b → false ≡ (good && (leb 0x21 b && leb b 0x7E))
-byte-high good b l = let ge : 0x21 ≤ b = omega arith in sym (rw (le-leb 0x21 b ge, lt-leb b 0x7E l) (and-false good))
+pub le-false : (good : Bool) (a b : ℕ) → b < a → false ≡ (good && leb a b)
+le-false good a b l = sym (rw (lt-leb a b l) (and-false good))
 
-pub byte-good : (good : Bool) (b : ℕ) → 0x21 ≤ b → b ≤ 0x7E → good ≡ (good && (leb 0x21 b && leb b 0x7E))
-byte-good good b ge le = sym (rw (le-leb 0x21 b ge, le-leb b 0x7E le) (and-true good))
+pub le-both : (good : Bool) (b : ℕ) (r s : Bool) → r ≡ (good && leb 0x21 b) → s ≡ (r && leb b 0x7E) → s ≡ (good && (leb 0x21 b && leb b 0x7E))
+le-both good b r s er es = es ∙ rw er (sym (and-assoc good (leb 0x21 b) (leb b 0x7E)))
 
-pub ruleset byte-laws = (byte-low, byte-high, byte-good)
+pub ruleset byte-laws = (le-true, le-false, le-both)
 
 -- `good` says whether the bytes before i are printable, and with what is left it decides
 pub record PrintableAt (s : List ℕ) (good : Bool) (i : ℕ) : Type 0 where

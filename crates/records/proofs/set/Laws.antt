@@ -191,7 +191,7 @@ pub check-long : (s : List ℕ) (r : Checked) → 65535 < length s → r ≡ ref
 unfolding checkSet
 check-long s r l e = e ∙ sym (rw (lt-ltb 65535 (length s) l))
 
-pub check-start : (s : List ℕ) → length s ≤ 65535 → CheckAt s 0 (replicate 257 0) (replicate 512 0) 0 false
+pub check-start : (s : List ℕ) → length s ≤ 65535 → CheckAt s 0 (replicate 257 0) (replicate 1280 0) 0 false
 unfolding checkSet
 check-start s l = record {
   within = omega arith;

@@ -7,6 +7,6 @@ pub and-printable-spec : {M : Type 1} → statement M
 and-printable-spec =
     tie.close
     (tie.spec
-    (λ c. search (byte-laws, needs))
-    (λ c. search (byte-laws, needs))
+    (λ c κs. search (byte-laws, needs))
+    (λ c κs. search (byte-laws, needs))
     (λ c. search (byte-laws, needs)))
