@@ -1,0 +1,85 @@
+//! Sets that take the library's other paths: more services in one round than its table holds, and names with one hash, which pass
+//! its filter of packages and share a chain of its index.
+use saqhovune::form::*;
+use saqhovune::{Refusal, resolve};
+
+/// A name of two bytes that tells `i`, in byte order.
+fn short(i: usize) -> String {
+    assert!(i < 94 * 94);
+    String::from_utf8(vec![b'!' + (i / 94) as u8, b'!' + (i % 94) as u8]).unwrap()
+}
+
+/// Names of eight bytes with one hash: of four bytes, +1, -3, +3 and -1 change none of its three sums.
+fn alike(i: usize) -> String {
+    let four = |d: usize| {
+        let t = d as i32 - 15;
+        [80 + t, 80 - 3 * t, 80 + 3 * t, 80 - t].map(|x| x as u8)
+    };
+    assert!(i < 31 * 31);
+    String::from_utf8([four(i / 31), four(i % 31)].concat()).unwrap()
+}
+
+/// How many modules start.
+fn started(set: &[u8], request: &[u8]) -> usize {
+    resolve(set, request).expect("it is accepted").count
+}
+
+#[test]
+fn many_services() {
+    let used = |i: usize| uses(&short(i));
+    let providers = [module("a"), provides(&short(8_250), &[]), module("b"), provides("nobody", &[])].concat();
+    let set = |count: usize| [module("java.base"), (0..count).flat_map(used).collect(), providers.clone()].concat();
+    assert_eq!(started(&set(8_100), &[]), 1);
+    assert_eq!(started(&set(8_251), &[]), 2);
+    assert_eq!(started(&set(8_500), &[]), 2);
+}
+
+#[test]
+fn new_services_only() {
+    // b uses what a provides; a was bound in the round before, and c uses what nobody new provides.
+    let set = [
+        module("java.base"),
+        uses("s"),
+        module("c"),
+        provides("t", &[]),
+        module("a"),
+        provides("s", &[]),
+        uses("t"),
+        module("d"),
+        provides("u", &[]),
+    ];
+    assert_eq!(started(&set.concat(), &[]), 3);
+}
+
+#[test]
+fn packages_with_one_hash() {
+    let packages = |from: usize, to: usize| (from..to).rev().flat_map(|i| package(&alike(i))).collect::<Vec<_>>();
+    let set = |second: Vec<u8>| [module("java.base"), module("a"), packages(0, 400), module("b"), second].concat();
+    let request = [root("a"), root("b")].concat();
+    assert_eq!(started(&set(packages(400, 800)), &request), 3);
+
+    let shared = [packages(700, 800), package(&alike(7)), package(&alike(3)), packages(600, 700)].concat();
+    let set = set(shared);
+    let least = alike(3).min(alike(7));
+    let at = set.windows(least.len()).rposition(|w| w == least.as_bytes()).unwrap();
+    let refusal = Refusal::SplitPackage { start: at, len: least.len(), owner: 1, second: 2 };
+    assert_eq!(resolve(&set, &request).unwrap_err(), refusal);
+}
+
+#[test]
+fn repeated_packages() {
+    let twice = |n: &str| [package(n), package(n)].concat();
+    let set = [module("java.base"), module("a"), twice("p"), module("b"), twice("q")].concat();
+    assert_eq!(started(&set, &[root("a"), root("b")].concat()), 3);
+}
+
+#[test]
+fn modules_with_one_hash() {
+    let listed = (0..200).flat_map(|i| module(&alike(i)));
+    let set: Vec<u8> = module("java.base").into_iter().chain(listed).collect();
+    let request: Vec<u8> = (0..200).step_by(3).flat_map(|i| root(&alike(i))).collect();
+    assert_eq!(started(&set, &request), 1 + 67);
+
+    let again = [set.clone(), module(&alike(77))].concat();
+    assert_eq!(resolve(&again, &request).unwrap_err(), Refusal::Repeated { offset: set.len() });
+}
