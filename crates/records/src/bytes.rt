@@ -1,10 +1,10 @@
 // Byte strings: equality, byte order, parts, and big-endian numbers.
 ghost use mathlib.Core.Path.{_≡_};
-ghost use Prim.Native.Nat.{_<_};
-ghost use mathlib.Core.Bool.{_&&_};
-ghost use lib.ListN.{getD, take, drop};
-ghost use lib.Dec.{eqb};
-ghost use Rattle.records.specs.Bytes.{sameBytes, beforeBytes, u16At};
+ghost use Prim.Native.Nat.{_<_, _≤_};
+ghost use mathlib.Core.Bool.{cond, _&&_};
+ghost use lib.ListN.{length, getD, take, drop};
+ghost use lib.Dec.{eqb, ltb};
+ghost use Rattle.records.specs.Bytes.{sameBytes, beforeBytes, u16At, DifferAt};
 
 // Whether `equal` holds and a is b.
 fn and_equal(equal: bool, a: u8, b: u8) -> bool
@@ -32,26 +32,42 @@ pub fn same(a: &[u8], b: &[u8]) -> bool
     equal
 }
 
+// The smaller number.
+fn smaller(a: usize, b: usize) -> usize
+    ensures { λ r. ⌜ r ≡ cond (ltb a b) a b ⌝ }
+{
+    if a < b {
+        return a;
+    }
+    b
+}
+
+// The first place below n where a and b differ, n where there is none.
+fn differ(a: &[u8], b: &[u8], n: usize) -> usize
+    requires { ⌜ n ≤ length (now a) ⌝ }
+    requires { ⌜ n ≤ length (now b) ⌝ }
+    ensures { λ r. ⌜ DifferAt (now (a .entry)) (now (b .entry)) n r ⌝ }
+{
+    let mut i: usize = 0;
+    while i < n {
+        if a[i] != b[i] {
+            return i;
+        }
+        i += 1;
+    }
+    n
+}
+
 // Whether a stands before b in byte order.
 pub fn before(a: &[u8], b: &[u8]) -> bool
     ensures { λ r. ⌜ r ≡ beforeBytes (now (a .entry)) (now (b .entry)) ⌝ }
 {
-    let mut i: usize = 0;
-    while i < a.len() {
-        if b.len() <= i {
-            return false;
-        }
-        let x = a[i];
-        let y = b[i];
-        if x < y {
-            return true;
-        }
-        if y < x {
-            return false;
-        }
-        i += 1;
+    let n = smaller(a.len(), b.len());
+    let i = differ(a, b, n);
+    if i < n {
+        return a[i] < b[i];
     }
-    i < b.len()
+    a.len() < b.len()
 }
 
 // The byte at i, 0 where there is none.

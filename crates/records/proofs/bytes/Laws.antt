@@ -2,7 +2,7 @@
 use Prim.Native.Nat.{ℕ, suc, _+_, _*_, _-_, _≤_, _<_}
 use mathlib.Core.Path.{_≡_, refl, sym, _∙_, ap, ap₂}
 use mathlib.Core.List.{List, [], _∷_}
-use mathlib.Core.Bool.{Bool, true, false, _&&_}
+use mathlib.Core.Bool.{Bool, true, false, cond, _&&_, _||_}
 use native.Mathlib.Omega.{arith}
 use native.Mathlib.Numerals.{add-one}
 use lib.ListN.{length, getD, take, drop, drop-of-length-le, List·getD-eq-default, length-drop}
@@ -10,8 +10,8 @@ use native.Mathlib.Nat.{le-of-lt, add-assoc}
 use lib.Seq.{drop-cons, take-all, getD-drop}
 use lib.Dec.{ltb, eqb}
 use borrow.Author.Tests.{eq-eqb, ne-eqb, lt-ltb, le-ltb, eqb-true, ltb-true, ltb-false}
-use Rattle.records.specs.Bytes.{sameBytes, beforeBytes, u16At}
-use Rattle.records.proofs.Logic.{clash, and-true, and-false, and-assoc}
+use Rattle.records.specs.Bytes.{sameBytes, beforeBytes, u16At, DifferAt}
+use Rattle.records.proofs.Logic.{clash, and-true, and-false, and-assoc, or-false}
 
 -- ---- parts
 
@@ -114,47 +114,93 @@ same-refl (x ∷ xs) = rw (eq-eqb x x refl) (same-refl xs)
 
 -- ---- byte order
 
--- at i the strings have agreed so far, and what is left decides
-pub record BeforeAt (a b : List ℕ) (i : ℕ) : Type 0 where
-  pub in-a : i ≤ length a
-  pub in-b : i ≤ length b
+-- the strings agree before i
+pub record AgreeAt (a b : List ℕ) (n i : ℕ) : Type 0 where
+  pub in-a : n ≤ length a
+  pub in-b : n ≤ length b
+  pub within : i ≤ n
   pub left : beforeBytes a b ≡ beforeBytes (drop i a) (drop i b)
 
-pub before-start : (a b : List ℕ) → BeforeAt a b 0
-before-start a b = record { in-a = omega arith; in-b = omega arith; left = refl }
+pub differ-start : (a b : List ℕ) (n : ℕ) → n ≤ length a → n ≤ length b → AgreeAt a b n 0
+differ-start a b n la lb = record { in-a = la; in-b = lb; within = omega arith; left = refl }
 
-module _ {a b : List ℕ} {i : ℕ} (h : BeforeAt a b i) where
-  pub before-short : length b ≤ i → i < length a → false ≡ beforeBytes a b
-  unfolding beforeBytes
-  before-short lb la = sym (h .left ∙ rw (drop-cons a i 0 la, drop-of-length-le b lb))
+module _ {a b : List ℕ} {n i : ℕ} (h : AgreeAt a b n i) where
+  pub differ-in-a : i < n → i < length a
+  differ-in-a l = omega (arith, h .in-a)
 
-  pub before-less : i < length a → i < length b → getD a i 0 < getD b i 0 → true ≡ beforeBytes a b
-  unfolding beforeBytes
-  before-less la lb lt = sym (h .left ∙ rw (drop-cons a i 0 la, drop-cons b i 0 lb, lt-ltb (getD a i 0) (getD b i 0) lt))
+  pub differ-in-b : i < n → i < length b
+  differ-in-b l = omega (arith, h .in-b)
 
-  pub before-more : i < length a → i < length b → getD b i 0 < getD a i 0 → false ≡ beforeBytes a b
-  unfolding beforeBytes
-  before-more la lb lt =
-      let ge : getD b i 0 ≤ getD a i 0 = omega arith in
-      sym (h .left ∙ rw (drop-cons a i 0 la, drop-cons b i 0 lb, le-ltb (getD a i 0) (getD b i 0) ge, ne-eqb (getD a i 0) (getD b i 0) (omega arith)))
+  pub differ-here : (getD a i 0 ≡ getD b i 0 → ⊥) → DifferAt a b n i
+  differ-here d = record { within = h .within; left = h .left; apart = λ _. ne-eqb (getD a i 0) (getD b i 0) d }
 
-  pub before-next : i < length a → i < length b → getD b i 0 ≤ getD a i 0 → getD a i 0 ≤ getD b i 0 → BeforeAt a b (i + 1)
+  pub differ-next : i < n → getD a i 0 ≡ getD b i 0 → AgreeAt a b n (i + 1)
   unfolding beforeBytes
-  before-next la lb l1 l2 = record {
-    in-a = omega arith;
-    in-b = omega arith;
-    left = h .left ∙ rw (add-one, drop-cons a i 0 la, drop-cons b i 0 lb, le-ltb (getD a i 0) (getD b i 0) l1, eq-eqb (getD a i 0) (getD b i 0) (omega arith));
-  }
+  differ-next l e =
+      let ge : getD b i 0 ≤ getD a i 0 = omega (arith, e) in
+      record {
+        in-a = h .in-a;
+        in-b = h .in-b;
+        within = omega arith;
+        left = h .left ∙ rw (add-one, drop-cons a i 0 (differ-in-a l), drop-cons b i 0 (differ-in-b l), le-ltb (getD a i 0) (getD b i 0) ge, eq-eqb (getD a i 0) (getD b i 0) e);
+      }
 
-  pub before-end : length a ≤ i → ltb i (length b) ≡ beforeBytes a b
-  unfolding beforeBytes
-  before-end la = sym (h .left ∙ rw (drop-of-length-le a la) (go (ltb i (length b)) refl))
+  pub differ-end : n ≤ i → DifferAt a b n n
+  differ-end l =
+      let e : i ≡ n = omega (arith, h .within) in
+      record { within = omega arith; left = h .left ∙ rw e; apart = λ m. absurd (omega (arith, m)) }
+
+pub ruleset differ-laws = (differ-start, differ-in-a, differ-in-b, differ-here, differ-next, differ-end)
+
+pub smaller-low : (a b : ℕ) → a < b → a ≡ cond (ltb a b) a b
+smaller-low a b l = sym (rw (lt-ltb a b l))
+
+pub smaller-high : (a b : ℕ) → b ≤ a → b ≡ cond (ltb a b) a b
+smaller-high a b l = sym (rw (le-ltb a b l))
+
+pub ruleset smaller-laws = (smaller-low, smaller-high)
+
+-- the shorter length is at most both
+module _ (a b : List ℕ) (n : ℕ) (e : n ≡ cond (ltb (length a) (length b)) (length a) (length b)) where
+  pub before-in-a : n ≤ length a
+  before-in-a = go (ltb (length a) (length b)) refl e
     where
-      go : (t : Bool) → ltb i (length b) ≡ t → beforeBytes [] (drop i b) ≡ t
-      go true e = rw (drop-cons b i 0 (ltb-true i (length b) e))
-      go false e = rw (drop-of-length-le b (ltb-false i (length b) e))
+      go : (t : Bool) → ltb (length a) (length b) ≡ t → n ≡ cond t (length a) (length b) → n ≤ length a
+      go true l k = omega (arith, k)
+      go false l k = omega (arith, k, ltb-false (length a) (length b) l)
 
-pub ruleset before-laws = (before-start, before-short, before-less, before-more, before-next, before-end)
+  pub before-in-b : n ≤ length b
+  before-in-b = go (ltb (length a) (length b)) refl e
+    where
+      go : (t : Bool) → ltb (length a) (length b) ≡ t → n ≡ cond t (length a) (length b) → n ≤ length b
+      go true l k = omega (arith, k, ltb-true (length a) (length b) l)
+      go false l k = omega (arith, k)
+
+  module _ (i : ℕ) (h : DifferAt a b n i) where
+    pub before-at-a : i < n → i < length a
+    before-at-a l = omega (arith, before-in-a)
+
+    pub before-at-b : i < n → i < length b
+    before-at-b l = omega (arith, before-in-b)
+
+    pub before-at : i < n → ltb (getD a i 0) (getD b i 0) ≡ beforeBytes a b
+    unfolding beforeBytes
+    before-at l = sym (h .left ∙ rw (drop-cons a i 0 (before-at-a l), drop-cons b i 0 (before-at-b l), h .apart l) (or-false (ltb (getD a i 0) (getD b i 0))))
+
+    pub before-end : n ≤ i → ltb (length a) (length b) ≡ beforeBytes a b
+    unfolding beforeBytes
+    before-end l = sym (h .left ∙ go (ltb (length a) (length b)) refl e)
+      where
+        go : (t : Bool) → ltb (length a) (length b) ≡ t → n ≡ cond t (length a) (length b) → beforeBytes (drop i a) (drop i b) ≡ t
+        go true k m =
+            rw (drop-of-length-le a {i = i} (omega (arith, m, l)), drop-cons b i 0 (omega (arith, m, h .within, ltb-true (length a) (length b) k)))
+        go false k m = past (drop i a) (drop-of-length-le b {i = i} (omega (arith, m, l)))
+          where
+            past : (x : List ℕ) {y : List ℕ} → y ≡ [] → beforeBytes x y ≡ false
+            past [] z = rw z
+            past (c ∷ x) z = rw z
+
+pub ruleset before-laws = (before-in-a, before-in-b, before-at-a, before-at-b, before-at, before-end)
 
 -- ---- a part
 
