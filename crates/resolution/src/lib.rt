@@ -3,6 +3,8 @@ pub mod absent;
 pub mod configuration;
 mod configure;
 mod filter;
+mod limits;
+mod met;
 mod modules;
 pub mod owner;
 mod reach;

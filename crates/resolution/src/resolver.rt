@@ -1,12 +1,13 @@
 // The queue of resolution over positions in the set, until none waits.
 ghost use mathlib.Core.Path.{_≡_};
-ghost use mathlib.Core.Bool.{false, _&&_, not};
+ghost use mathlib.Core.Bool.{true, false, _&&_, not};
 ghost use Prim.Native.Nat.{suc, _-_, _≤_, _<_};
 ghost use lib.Dec.{eqb};
 ghost use lib.ListN.{length, getD, drop};
 ghost use Rattle.records.specs.Record.{records};
-ghost use Rattle.resolution.specs.Resolver.{inputsOf, want as wantOf, wantRecord, wantUnfound, kindFor, Within, lineAt, queued, queuedAt, queueIn, advancedAt, handleAt, isOpen, isDone, runAt, Ready, Moved};
-ghost use Rattle.resolution.specs.Lookup.{Lookup};
+ghost use Rattle.records.specs.Request.{requestOf, isPermitted};
+ghost use Rattle.resolution.specs.Resolver.{inputsOf, isMetBefore, want as wantOf, wantRecord, wantUnfound, kindFor, Within, lineAt, queued, queuedAt, queueIn, advancedAt, handleAt, isOpen, isDone, runAt, Ready, Moved};
+ghost use Rattle.resolution.specs.Known.{Limits, Met, Tables};
 ghost use Rattle.resolution.specs.Runs.{Running, Ran};
 use crate::modules::end_of;
 use crate::modules::find_split;
@@ -24,6 +25,7 @@ use records::error::ModuleError;
 use records::finder::Found;
 use records::index::find_in;
 use records::name::name_of;
+use records::order::contains;
 use records::record::Cursor;
 use records::record::Kind;
 use records::record::Next;
@@ -57,12 +59,58 @@ pub struct Queue {
 }
 
 // How many modules the set has, which of them are permitted, whether a round is being made, and how many modules were resolved
-// before the rounds.
+// before the rounds. `limited`: whether the request has an LM; `known`: whether tables of names tell which absent names are
+// permitted, and in a round which were met before the rounds.
 pub struct Phase {
     pub count: usize,
     pub permitted: [u64; 4],
     pub in_round: bool,
     pub before: usize,
+    pub limited: bool,
+    pub known: bool,
+}
+
+// Whether the request permits an absent name. Where that is known, `names` tells the names of its LM in order.
+fn permits(request: &[u8], phase: Phase, names: &[usize], name: &[u8]) -> bool
+    requires { ⌜ Limits (now request) phase (now names) ⌝ }
+    requires { ⌜ phase .in_round ≡ false ⌝ }
+    ensures { λ r. ⌜ r ≡ isPermitted (requestOf (now (request .entry))) (now (name .entry)) ⌝ }
+{
+    if phase.limited {
+        if phase.known {
+            if same(name, b"java.base") {
+                return true;
+            }
+            return contains(request, names, names.len(), name);
+        }
+        return is_permitted(request, name);
+    }
+    true
+}
+
+// Whether an absent name was met before the rounds. Where that is known, `names` tells the roots in order, and `needed` the names
+// that the modules resolved before the rounds require and that are not static.
+fn is_met(
+    set: &[u8],
+    request: &[u8],
+    starts: &[usize],
+    old: &[usize],
+    phase: Phase,
+    names: &[usize],
+    needed: &[usize],
+    name: &[u8],
+) -> bool
+    requires { ⌜ Met (now set) (now request) (now starts) (now old) phase (now names) (now needed) ⌝ }
+    requires { ⌜ phase .in_round ≡ true ⌝ }
+    ensures { λ r. ⌜ r ≡ isMetBefore (inputsOf (now (set .entry)) (now (request .entry)) (now (starts .entry)) (now (old .entry)) phase) (now (name .entry)) ⌝ }
+{
+    if phase.known {
+        if contains(request, names, names.len(), name) {
+            return true;
+        }
+        return contains(set, needed, needed.len(), name);
+    }
+    is_met_before(set, request, starts, old, phase.before, name)
 }
 
 // What becomes of an absent name that is not static.
@@ -72,19 +120,23 @@ fn want_absent(
     starts: &[usize],
     old: &[usize],
     phase: Phase,
+    names: &[usize],
+    needed: &[usize],
     name: &[u8],
     error: ModuleError,
 ) -> Wanted
+    requires { ⌜ Limits (now request) phase (now names) ⌝ }
+    requires { ⌜ Met (now set) (now request) (now starts) (now old) phase (now names) (now needed) ⌝ }
     ensures { λ r. ⌜ r ≡ wantUnfound (inputsOf (now (set .entry)) (now (request .entry)) (now (starts .entry)) (now (old .entry)) phase) (now (name .entry)) error ⌝ }
     ensures { λ r. ⌜ Within (phase .count) r ⌝ }
 {
     if phase.in_round {
-        if is_met_before(set, request, starts, old, phase.before, name) {
+        if is_met(set, request, starts, old, phase, names, needed, name) {
             return Wanted::Pass;
         }
         return Wanted::Refuse(error);
     }
-    if is_permitted(request, name) {
+    if permits(request, phase, names, name) {
         if same(name, b"java.base") {
             return Wanted::Stop(ModuleError::JavaBaseNotFound);
         }
@@ -101,11 +153,13 @@ pub fn want(
     old: &[usize],
     phase: Phase,
     index: &[u16],
+    names: &[usize],
+    needed: &[usize],
     name: &[u8],
     optional: bool,
     error: ModuleError,
 ) -> Wanted
-    requires { ⌜ Lookup (now set) (now starts) (phase .count) (now index) ⌝ }
+    requires { ⌜ Tables (now set) (now request) (now starts) (now old) phase (now index) (now names) (now needed) ⌝ }
     ensures { λ r. ⌜ r ≡ wantOf (inputsOf (now (set .entry)) (now (request .entry)) (now (starts .entry)) (now (old .entry)) phase) (now (name .entry)) optional error ⌝ }
     ensures { λ r. ⌜ Within (phase .count) r ⌝ }
 {
@@ -121,7 +175,7 @@ pub fn want(
             if optional {
                 return Wanted::Pass;
             }
-            want_absent(set, request, starts, old, phase, name, error)
+            want_absent(set, request, starts, old, phase, names, needed, name, error)
         }
     }
 }
@@ -134,11 +188,13 @@ fn want_record(
     old: &[usize],
     phase: Phase,
     index: &[u16],
+    names: &[usize],
+    needed: &[usize],
     input: Input,
     body: &[u8],
     start: usize,
 ) -> Wanted
-    requires { ⌜ Lookup (now set) (now starts) (phase .count) (now index) ⌝ }
+    requires { ⌜ Tables (now set) (now request) (now starts) (now old) phase (now index) (now names) (now needed) ⌝ }
     requires { ⌜ start ≤ 65535 ⌝ }
     ensures { λ r. ⌜ r ≡ wantRecord (inputsOf (now (set .entry)) (now (request .entry)) (now (starts .entry)) (now (old .entry)) phase) input (now (body .entry)) start ⌝ }
     ensures { λ r. ⌜ Within (phase .count) r ⌝ }
@@ -154,6 +210,8 @@ fn want_record(
                 old,
                 phase,
                 index,
+                names,
+                needed,
                 name,
                 is_static(body),
                 error,
@@ -162,7 +220,19 @@ fn want_record(
         Input::Request => {
             let name = name_of(body);
             let error = ModuleError::ModuleNotFound(Input::Request, start + 1, name.len());
-            want(set, request, starts, old, phase, index, name, false, error)
+            want(
+                set,
+                request,
+                starts,
+                old,
+                phase,
+                index,
+                names,
+                needed,
+                name,
+                false,
+                error,
+            )
         }
         Input::Packages => Wanted::Pass,
     }
@@ -245,13 +315,15 @@ pub fn queue_records(
     old: &[usize],
     phase: Phase,
     index: &[u16],
+    names: &[usize],
+    needed: &[usize],
     input: Input,
     source: &[u8],
     at: usize,
     order: &mut [usize],
     q: Queue,
 ) -> Queue
-    requires { ⌜ Lookup (now set) (now starts) (phase .count) (now index) ⌝ }
+    requires { ⌜ Tables (now set) (now request) (now starts) (now old) phase (now index) (now names) (now needed) ⌝ }
     requires { ⌜ Ready (phase .count) (now order) q ⌝ }
     requires { ⌜ length (now source) ≤ 65535 ⌝ }
     ensures { λ r. ⌜ Moved (phase .count) (now (order .exit)) r (queueIn (inputsOf (now (set .entry)) (now (request .entry)) (now (starts .entry)) (now (old .entry)) phase) input at (records (drop at (now (source .entry)))) (lineAt (now (order .entry)) q)) ⌝ }
@@ -269,6 +341,8 @@ pub fn queue_records(
                     old,
                     phase,
                     index,
+                    names,
+                    needed,
                     input,
                     part(source, start, len),
                     start,
@@ -292,10 +366,12 @@ fn advance(
     old: &[usize],
     phase: Phase,
     index: &[u16],
+    names: &[usize],
+    needed: &[usize],
     order: &mut [usize],
     q: Queue,
 ) -> Queue
-    requires { ⌜ Lookup (now set) (now starts) (phase .count) (now index) ⌝ }
+    requires { ⌜ Tables (now set) (now request) (now starts) (now old) phase (now index) (now names) (now needed) ⌝ }
     requires { ⌜ length (now set) ≤ 65535 ⌝ }
     requires { ⌜ Ready (phase .count) (now order) q ⌝ }
     requires { ⌜ q .head < q .tail ⌝ }
@@ -317,6 +393,8 @@ fn advance(
         old,
         phase,
         index,
+        names,
+        needed,
         Input::Set,
         source,
         entry(starts, p),
@@ -333,11 +411,13 @@ fn handle(
     old: &[usize],
     phase: Phase,
     index: &[u16],
+    names: &[usize],
+    needed: &[usize],
     order: &mut [usize],
     packages: &mut [u64],
     q: Queue,
 ) -> Queue
-    requires { ⌜ Lookup (now set) (now starts) (phase .count) (now index) ⌝ }
+    requires { ⌜ Tables (now set) (now request) (now starts) (now old) phase (now index) (now names) (now needed) ⌝ }
     requires { ⌜ Running (phase .count) (now set) (now starts) (now order) (now packages) q ⌝ }
     requires { ⌜ q .head < q .tail ⌝ }
     ensures { λ r. ⌜ Ran (phase .count) (now (set .entry)) (now (starts .entry)) (now (order .exit)) (now (packages .exit)) r (handleAt (inputsOf (now (set .entry)) (now (request .entry)) (now (starts .entry)) (now (old .entry)) phase) (lineAt (now (order .entry)) q)) ⌝ }
@@ -345,7 +425,18 @@ fn handle(
     let at = q.head;
     let p = order[at];
     match find_split(set, starts, order, at, packages, p) {
-        Halt::Open => advance(set, request, starts, old, phase, index, order, q),
+        Halt::Open => advance(
+            set,
+            request,
+            starts,
+            old,
+            phase,
+            index,
+            names,
+            needed,
+            order,
+            q,
+        ),
         Halt::Stop(e) => Queue {
             head: at,
             tail: q.tail,
@@ -379,11 +470,13 @@ pub fn run(
     old: &[usize],
     phase: Phase,
     index: &[u16],
+    names: &[usize],
+    needed: &[usize],
     order: &mut [usize],
     packages: &mut [u64],
     q: Queue,
 ) -> Queue
-    requires { ⌜ Lookup (now set) (now starts) (phase .count) (now index) ⌝ }
+    requires { ⌜ Tables (now set) (now request) (now starts) (now old) phase (now index) (now names) (now needed) ⌝ }
     requires { ⌜ Running (phase .count) (now set) (now starts) (now order) (now packages) q ⌝ }
     ensures { λ r. ⌜ Ran (phase .count) (now (set .entry)) (now (starts .entry)) (now (order .exit)) (now (packages .exit)) r (runAt (inputsOf (now (set .entry)) (now (request .entry)) (now (starts .entry)) (now (old .entry)) phase) (suc (phase .count) - q .head) (lineAt (now (order .entry)) q)) ⌝ }
     ensures { λ r. ⌜ (isOpen (r .halt) && not (eqb (r .head) (r .tail))) ≡ false ⌝ }
@@ -397,6 +490,8 @@ pub fn run(
             old,
             phase,
             index,
+            names,
+            needed,
             order,
             packages,
             line,

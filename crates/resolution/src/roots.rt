@@ -4,7 +4,10 @@ ghost use Prim.Native.Nat.{_≤_};
 ghost use lib.ListN.{length};
 ghost use Rattle.resolution.specs.Resolver.{inputsOf, lineAt, frontAt, rootsAt, firstAt, startOn, resolveAt, Fresh, Moved};
 ghost use Rattle.resolution.specs.Lookup.{Lookup};
+ghost use Rattle.resolution.specs.Known.{Tables};
 ghost use Rattle.resolution.specs.Runs.{Ran};
+use crate::limits::is_limited;
+use crate::limits::order_limits;
 use crate::resolver::Halt;
 use crate::resolver::Phase;
 use crate::resolver::Queue;
@@ -12,7 +15,7 @@ use crate::resolver::enqueue;
 use crate::resolver::queue_records;
 use crate::resolver::run;
 use crate::resolver::want;
-use crate::rounds::all_rounds;
+use crate::rounds::make_rounds;
 use crate::row::Row;
 use records::descriptor::has_named;
 use records::error::Input;
@@ -26,9 +29,10 @@ fn front(
     starts: &[usize],
     phase: Phase,
     index: &[u16],
+    names: &[usize],
     order: &mut [usize],
 ) -> Queue
-    requires { ⌜ Lookup (now set) (now starts) (phase .count) (now index) ⌝ }
+    requires { ⌜ Tables (now set) (now request) (now starts) (now starts) phase (now index) (now names) (now names) ⌝ }
     requires { ⌜ Fresh (phase .count) (now order) ⌝ }
     ensures { λ r. ⌜ Moved (phase .count) (now (order .exit)) r (frontAt (inputsOf (now (set .entry)) (now (request .entry)) (now (starts .entry)) (now (starts .entry)) phase)) ⌝ }
 {
@@ -48,6 +52,8 @@ fn front(
         starts,
         phase,
         index,
+        names,
+        names,
         b"java.base",
         false,
         error,
@@ -62,14 +68,15 @@ fn resolve_roots(
     starts: &[usize],
     phase: Phase,
     index: &[u16],
+    names: &[usize],
     order: &mut [usize],
 ) -> Queue
-    requires { ⌜ Lookup (now set) (now starts) (phase .count) (now index) ⌝ }
+    requires { ⌜ Tables (now set) (now request) (now starts) (now starts) phase (now index) (now names) (now names) ⌝ }
     requires { ⌜ Fresh (phase .count) (now order) ⌝ }
     requires { ⌜ length (now request) ≤ 65535 ⌝ }
     ensures { λ r. ⌜ Moved (phase .count) (now (order .exit)) r (rootsAt (inputsOf (now (set .entry)) (now (request .entry)) (now (starts .entry)) (now (starts .entry)) phase)) ⌝ }
 {
-    let q = front(set, request, starts, phase, index, order);
+    let q = front(set, request, starts, phase, index, names, order);
     queue_records(
         set,
         request,
@@ -77,6 +84,8 @@ fn resolve_roots(
         starts,
         phase,
         index,
+        names,
+        names,
         Input::Request,
         request,
         0,
@@ -92,17 +101,18 @@ fn resolve_first(
     starts: &[usize],
     phase: Phase,
     index: &[u16],
+    names: &[usize],
     order: &mut [usize],
     packages: &mut [u64],
 ) -> Queue
-    requires { ⌜ Lookup (now set) (now starts) (phase .count) (now index) ⌝ }
+    requires { ⌜ Tables (now set) (now request) (now starts) (now starts) phase (now index) (now names) (now names) ⌝ }
     requires { ⌜ Fresh (phase .count) (now order) ⌝ }
     requires { ⌜ length (now request) ≤ 65535 ⌝ }
     requires { ⌜ length (now set) ≤ 65535 ⌝ }
     requires { ⌜ length (now packages) ≡ 1024 ⌝ }
     ensures { λ r. ⌜ Ran (phase .count) (now (set .entry)) (now (starts .entry)) (now (order .exit)) (now (packages .exit)) r (firstAt (inputsOf (now (set .entry)) (now (request .entry)) (now (starts .entry)) (now (starts .entry)) phase)) ⌝ }
 {
-    let q = resolve_roots(set, request, starts, phase, index, order);
+    let q = resolve_roots(set, request, starts, phase, index, names, order);
     run(
         set,
         request,
@@ -110,6 +120,8 @@ fn resolve_first(
         starts,
         phase,
         index,
+        names,
+        names,
         order,
         packages,
         q,
@@ -120,6 +132,102 @@ fn resolve_first(
 pub struct Ordered {
     pub order: [usize; 256],
     pub queue: Queue,
+}
+
+// The queue of the roots, then the rounds, from this phase on. Where that is known, `names` tells which names are permitted.
+fn resolve_from(
+    set: &[u8],
+    request: &[u8],
+    starts: &[usize],
+    phase: Phase,
+    index: &[u16],
+    names: &[usize],
+) -> Ordered
+    requires { ⌜ Tables (now set) (now request) (now starts) (now starts) phase (now index) (now names) (now names) ⌝ }
+    requires { ⌜ length (now request) ≤ 65535 ⌝ }
+    requires { ⌜ length (now set) ≤ 65535 ⌝ }
+    ensures { λ r. ⌜ lineAt (r .order) (r .queue) ≡ resolveAt (inputsOf (now (set .entry)) (now (request .entry)) (now (starts .entry)) (now (starts .entry)) phase) ⌝ }
+{
+    let mut order = [0usize; 256];
+    let mut packages = [0u64; 1024];
+    let first = resolve_first(
+        set,
+        request,
+        starts,
+        phase,
+        index,
+        names,
+        &mut order,
+        &mut packages,
+    );
+    let old = order;
+    let permitted = phase.permitted;
+    let next = Phase {
+        count: phase.count,
+        permitted,
+        in_round: true,
+        before: first.tail,
+        limited: phase.limited,
+        known: false,
+    };
+    let queue = make_rounds(
+        set,
+        request,
+        starts,
+        &old,
+        next,
+        index,
+        &mut order,
+        &mut packages,
+        first,
+    );
+    Ordered { order, queue }
+}
+
+// The same for a request with an LM, whose names come into the table.
+fn resolve_listed(
+    set: &[u8],
+    request: &[u8],
+    starts: &[usize],
+    count: usize,
+    permitted: Row,
+    index: &[u16],
+    table: &mut [usize],
+) -> Ordered
+    requires { ⌜ Lookup (now set) (now starts) count (now index) ⌝ }
+    requires { ⌜ length (now request) ≤ 65535 ⌝ }
+    requires { ⌜ length (now set) ≤ 65535 ⌝ }
+    ensures { λ r. ⌜ lineAt (r .order) (r .queue) ≡ resolveAt (startOn (now (set .entry)) (now (request .entry)) count (now (starts .entry)) (permitted .words)) ⌝ }
+{
+    let listed = order_limits(request, table);
+    let words = permitted.words;
+    let phase = Phase {
+        count,
+        permitted: words,
+        in_round: false,
+        before: 0,
+        limited: true,
+        known: listed.known,
+    };
+    resolve_from(set, request, starts, phase, index, &table[..listed.count])
+}
+
+// The same, with a table for the most names that differ.
+fn resolve_limited(
+    set: &[u8],
+    request: &[u8],
+    starts: &[usize],
+    count: usize,
+    permitted: Row,
+    index: &[u16],
+) -> Ordered
+    requires { ⌜ Lookup (now set) (now starts) count (now index) ⌝ }
+    requires { ⌜ length (now request) ≤ 65535 ⌝ }
+    requires { ⌜ length (now set) ≤ 65535 ⌝ }
+    ensures { λ r. ⌜ lineAt (r .order) (r .queue) ≡ resolveAt (startOn (now (set .entry)) (now (request .entry)) count (now (starts .entry)) (permitted .words)) ⌝ }
+{
+    let mut table = [0usize; 32768];
+    resolve_listed(set, request, starts, count, permitted, index, &mut table)
 }
 
 // The queue of the roots, then the rounds.
@@ -136,41 +244,17 @@ pub fn resolve_order(
     requires { ⌜ length (now set) ≤ 65535 ⌝ }
     ensures { λ r. ⌜ lineAt (r .order) (r .queue) ≡ resolveAt (startOn (now (set .entry)) (now (request .entry)) count (now (starts .entry)) (permitted .words)) ⌝ }
 {
-    let mut order = [0usize; 256];
-    let mut packages = [0u64; 1024];
+    if is_limited(request) {
+        return resolve_limited(set, request, starts, count, permitted, index);
+    }
     let words = permitted.words;
     let phase = Phase {
         count,
         permitted: words,
         in_round: false,
         before: 0,
+        limited: false,
+        known: false,
     };
-    let first = resolve_first(
-        set,
-        request,
-        starts,
-        phase,
-        index,
-        &mut order,
-        &mut packages,
-    );
-    let old = order;
-    let next = Phase {
-        count,
-        permitted: words,
-        in_round: true,
-        before: first.tail,
-    };
-    let queue = all_rounds(
-        set,
-        request,
-        starts,
-        &old,
-        next,
-        index,
-        &mut order,
-        &mut packages,
-        first,
-    );
-    Ordered { order, queue }
+    resolve_from(set, request, starts, phase, index, starts)
 }

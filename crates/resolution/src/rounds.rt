@@ -11,9 +11,11 @@ ghost use Rattle.records.specs.declared.record.Kind.the-variants as Kind;
 ghost use Rattle.resolution.specs.Lists.{any};
 ghost use Rattle.resolution.specs.Resolver.{inputsOf, namesOf, hasNamed, lineAt, pickLine, queued, isProviderAt, offeredAt, provideAt, isDone, roundAt, roundsAt, Moved};
 ghost use Rattle.resolution.specs.Filter.{asked};
-ghost use Rattle.resolution.specs.Lookup.{Lookup};
+ghost use Rattle.resolution.specs.Known.{Tables, Later};
 ghost use Rattle.resolution.specs.Runs.{Running, Added, Told, Unbound, Binding, Between, Rounded};
 ghost use Rattle.resolution.specs.declared.resolver.Wanted.the-variants as Wanted;
+use crate::met::order_needed;
+use crate::met::order_roots;
 use crate::modules::end_of;
 use crate::modules::is_one_of;
 use crate::modules::is_provider;
@@ -269,13 +271,15 @@ fn round(
     old: &[usize],
     phase: Phase,
     index: &[u16],
+    names: &[usize],
+    needed: &[usize],
     order: &mut [usize],
     packages: &mut [u64],
     table: &mut [usize],
     bound: usize,
     q: Queue,
 ) -> Queue
-    requires { ⌜ Lookup (now set) (now starts) (phase .count) (now index) ⌝ }
+    requires { ⌜ Tables (now set) (now request) (now starts) (now old) phase (now index) (now names) (now needed) ⌝ }
     requires { ⌜ Between phase (now set) (now starts) (now order) (now packages) bound q ⌝ }
     requires { ⌜ isDone (q .halt) ≡ true ⌝ }
     ensures { λ r. ⌜ Rounded phase (now (set .entry)) (now (starts .entry)) (now (order .exit)) (now (packages .exit)) (q .head) r (roundAt (inputsOf (now (set .entry)) (now (request .entry)) (now (starts .entry)) (now (old .entry)) phase) (lineAt (now (order .entry)) q)) ⌝ }
@@ -288,6 +292,8 @@ fn round(
         old,
         phase,
         index,
+        names,
+        needed,
         order,
         packages,
         next,
@@ -302,12 +308,14 @@ fn rounds(
     old: &[usize],
     phase: Phase,
     index: &[u16],
+    names: &[usize],
+    needed: &[usize],
     order: &mut [usize],
     packages: &mut [u64],
     table: &mut [usize],
     q: Queue,
 ) -> Queue
-    requires { ⌜ Lookup (now set) (now starts) (phase .count) (now index) ⌝ }
+    requires { ⌜ Tables (now set) (now request) (now starts) (now old) phase (now index) (now names) (now needed) ⌝ }
     requires { ⌜ Between phase (now set) (now starts) (now order) (now packages) 0 q ⌝ }
     ensures { λ r. ⌜ Moved (phase .count) (now (order .exit)) r (roundsAt (inputsOf (now (set .entry)) (now (request .entry)) (now (starts .entry)) (now (old .entry)) phase) (suc (phase .count)) (lineAt (now (order .entry)) q)) ⌝ }
 {
@@ -322,6 +330,8 @@ fn rounds(
             old,
             phase,
             index,
+            names,
+            needed,
             order,
             packages,
             table,
@@ -337,18 +347,20 @@ fn rounds(
 }
 
 // The rounds, with a table for the services of a round.
-pub fn all_rounds(
+fn all_rounds(
     set: &[u8],
     request: &[u8],
     starts: &[usize],
     old: &[usize],
     phase: Phase,
     index: &[u16],
+    names: &[usize],
+    needed: &[usize],
     order: &mut [usize],
     packages: &mut [u64],
     q: Queue,
 ) -> Queue
-    requires { ⌜ Lookup (now set) (now starts) (phase .count) (now index) ⌝ }
+    requires { ⌜ Tables (now set) (now request) (now starts) (now old) phase (now index) (now names) (now needed) ⌝ }
     requires { ⌜ Running (phase .count) (now set) (now starts) (now order) (now packages) q ⌝ }
     ensures { λ r. ⌜ Moved (phase .count) (now (order .exit)) r (roundsAt (inputsOf (now (set .entry)) (now (request .entry)) (now (starts .entry)) (now (old .entry)) phase) (suc (phase .count)) (lineAt (now (order .entry)) q)) ⌝ }
 {
@@ -360,9 +372,123 @@ pub fn all_rounds(
         old,
         phase,
         index,
+        names,
+        needed,
         order,
         packages,
         &mut table,
+        q,
+    )
+}
+
+// The rounds, where these tables tell which absent names were met before.
+fn told_rounds(
+    set: &[u8],
+    request: &[u8],
+    starts: &[usize],
+    old: &[usize],
+    phase: Phase,
+    index: &[u16],
+    roots: &mut [usize],
+    needed: &mut [usize],
+    order: &mut [usize],
+    packages: &mut [u64],
+    q: Queue,
+) -> Queue
+    requires { ⌜ Later (now set) (now request) (now starts) (now old) phase (now index) ⌝ }
+    requires { ⌜ Running (phase .count) (now set) (now starts) (now order) (now packages) q ⌝ }
+    requires { ⌜ 16384 ≤ length (now roots) ⌝ }
+    ensures { λ r. ⌜ Moved (phase .count) (now (order .exit)) r (roundsAt (inputsOf (now (set .entry)) (now (request .entry)) (now (starts .entry)) (now (old .entry)) phase) (suc (phase .count)) (lineAt (now (order .entry)) q)) ⌝ }
+{
+    let n = order_roots(request, roots);
+    let listed = order_needed(set, starts, old, phase.before, needed);
+    let permitted = phase.permitted;
+    let next = Phase {
+        count: phase.count,
+        permitted,
+        in_round: phase.in_round,
+        before: phase.before,
+        limited: true,
+        known: listed.known,
+    };
+    all_rounds(
+        set,
+        request,
+        starts,
+        old,
+        next,
+        index,
+        &roots[..n],
+        &needed[..listed.count],
+        order,
+        packages,
+        q,
+    )
+}
+
+// The rounds of a request with an LM.
+fn limited_rounds(
+    set: &[u8],
+    request: &[u8],
+    starts: &[usize],
+    old: &[usize],
+    phase: Phase,
+    index: &[u16],
+    order: &mut [usize],
+    packages: &mut [u64],
+    q: Queue,
+) -> Queue
+    requires { ⌜ Later (now set) (now request) (now starts) (now old) phase (now index) ⌝ }
+    requires { ⌜ Running (phase .count) (now set) (now starts) (now order) (now packages) q ⌝ }
+    ensures { λ r. ⌜ Moved (phase .count) (now (order .exit)) r (roundsAt (inputsOf (now (set .entry)) (now (request .entry)) (now (starts .entry)) (now (old .entry)) phase) (suc (phase .count)) (lineAt (now (order .entry)) q)) ⌝ }
+{
+    let mut roots = [0usize; 16384];
+    let mut needed = [0usize; 8192];
+    told_rounds(
+        set,
+        request,
+        starts,
+        old,
+        phase,
+        index,
+        &mut roots,
+        &mut needed,
+        order,
+        packages,
+        q,
+    )
+}
+
+// The rounds. Without an LM no absent name was met before: it would have ended the queue.
+pub fn make_rounds(
+    set: &[u8],
+    request: &[u8],
+    starts: &[usize],
+    old: &[usize],
+    phase: Phase,
+    index: &[u16],
+    order: &mut [usize],
+    packages: &mut [u64],
+    q: Queue,
+) -> Queue
+    requires { ⌜ Later (now set) (now request) (now starts) (now old) phase (now index) ⌝ }
+    requires { ⌜ Running (phase .count) (now set) (now starts) (now order) (now packages) q ⌝ }
+    ensures { λ r. ⌜ Moved (phase .count) (now (order .exit)) r (roundsAt (inputsOf (now (set .entry)) (now (request .entry)) (now (starts .entry)) (now (old .entry)) phase) (suc (phase .count)) (lineAt (now (order .entry)) q)) ⌝ }
+{
+    if phase.limited {
+        return limited_rounds(set, request, starts, old, phase, index, order, packages, q);
+    }
+    all_rounds(
+        set,
+        request,
+        starts,
+        old,
+        phase,
+        index,
+        starts,
+        starts,
+        order,
+        packages,
         q,
     )
 }

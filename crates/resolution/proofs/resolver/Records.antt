@@ -18,7 +18,7 @@ use Rattle.records.proofs.Logic.{clash}
 use Rattle.records.proofs.record.Laws.{records-cons, records-none, records-end, records-ind, body-front}
 use Rattle.records.proofs.record.Bodies.{next-less, body-room}
 use Rattle.resolution.specs.Resolver.{Inputs, inputsOf, wantRecord, kindFor, Line, pickLine, lineAt, queued, queuedOn, queueIn, isDone, Ready, Moved}
-use Rattle.resolution.specs.Lookup.{Lookup}
+use Rattle.resolution.specs.Known.{Tables}
 use Rattle.resolution.specs.declared.resolver.Halt.{Halt}
 use Rattle.resolution.specs.declared.resolver.Halt.the-variants as Halt
 use Rattle.resolution.specs.declared.resolver.Phase.{Phase}
@@ -123,29 +123,29 @@ module _ (w : Inputs) (i : Input) where
       go true = queued-ended (wantRecord w i (bodyOf r) (off + 4)) l e
       go false = refl
 
-module _ (set request starts old : List ℕ) (phase : Phase) (index : List ℕ) (i : Input) where
+module _ (set request starts old : List ℕ) (phase : Phase) (index names needed : List ℕ) (i : Input) where
   abbrev w : Inputs
   w = inputsOf set request starts old phase
 
   -- the records of source from `from` to `at` are done
   pub record RecordsAt (k : Kind) (source : List ℕ) (from at : ℕ) (start : Line) (order : List ℕ) (q : Queue) : Type 0 where
-    pub lookup : Lookup set starts (phase .count) index
+    pub tables : Tables set request starts old phase index names needed
     pub kind-is : k ≡ kindFor i
     pub short : length source ≤ 65535
     pub ready : Ready (phase .count) order q
     pub left : queueIn w i from (records (drop from source)) start ≡ queueIn w i at (records (drop at source)) (lineAt order q)
 
-  pub records-start : (k : Kind) (source : List ℕ) (from : ℕ) (order : List ℕ) (q : Queue) → Lookup set starts (phase .count) index → k ≡ kindFor i → length source ≤ 65535
+  pub records-start : (k : Kind) (source : List ℕ) (from : ℕ) (order : List ℕ) (q : Queue) → Tables set request starts old phase index names needed → k ≡ kindFor i → length source ≤ 65535
       → Ready (phase .count) order q → RecordsAt k source from from (lineAt order q) order q
-  records-start k source from order q o e b h = record { lookup = o; kind-is = e; short = b; ready = h; left = refl }
+  records-start k source from order q o e b h = record { tables = o; kind-is = e; short = b; ready = h; left = refl }
 
   module _ (k : Kind) (source : List ℕ) (from at : ℕ) (start : Line) (order : List ℕ) (q : Queue) (h : RecordsAt k source from at start order q) where
     pub records-ended : (d : Bool) → d ≡ isDone (q .halt) → d ≡ false → Moved (phase .count) order q (queueIn w i from (records (drop from source)) start)
     unfolding lineAt
     records-ended d ed e = record { line = sym (h .left ∙ ended w i at (records (drop at source)) (lineAt order q) (sym ed ∙ e)); ready = h .ready }
 
-    pub records-lookup : Lookup set starts (phase .count) index
-    records-lookup = h .lookup
+    pub records-tables : Tables set request starts old phase index names needed
+    records-tables = h .tables
 
     pub records-ready : Ready (phase .count) order q
     records-ready = h .ready
@@ -179,7 +179,7 @@ module _ (set request starts old : List ℕ) (phase : Phase) (index : List ℕ) 
             let d : at + (at-body - at) ≡ at-body = omega (arith, z .0) in
             let g : at + (next .at - at) ≡ next .at = omega (arith, z .0, z .1) in
             record {
-              lookup = h .lookup;
+              tables = h .tables;
               kind-is = h .kind-is;
               short = h .short;
               ready = m .ready;
@@ -193,4 +193,4 @@ module _ (set request starts old : List ℕ) (phase : Phase) (index : List ℕ) 
         ready = h .ready;
       }
 
-pub ruleset records-laws = (records-start, records-ended, records-lookup, records-ready, records-fits, records-less, records-turn, records-done)
+pub ruleset records-laws = (records-start, records-ended, records-tables, records-ready, records-fits, records-less, records-turn, records-done)

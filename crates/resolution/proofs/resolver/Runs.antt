@@ -13,7 +13,7 @@ use Rattle.records.specs.declared.error.Input.the-variants as Input
 use Rattle.records.proofs.Logic.{clash, and-left, and-right}
 use Rattle.resolution.specs.Row.{one}
 use Rattle.resolution.specs.Resolver.{Inputs, inputsOf, startOf, blockOf, Line, lineAt, Ready, splitAt, advancedAt, handledAt, handleAt, isOpen, goesOn, runAt}
-use Rattle.resolution.specs.Lookup.{Lookup}
+use Rattle.resolution.specs.Known.{Tables}
 use Rattle.resolution.specs.Runs.{Running, Ran}
 use Rattle.resolution.specs.declared.resolver.Halt.{Halt}
 use Rattle.resolution.specs.declared.resolver.Halt.the-variants as Halt
@@ -65,19 +65,19 @@ open-on : (l : Line) → goesOn l ≡ true → isOpen (l .halt) ≡ true
 unfolding goesOn
 open-on l e = and-left (isOpen (l .halt)) (not (eqb (l .head) (length (l .order)))) e
 
-module _ (set request starts old : List ℕ) (phase : Phase) (index : List ℕ) where
+module _ (set request starts old : List ℕ) (phase : Phase) (index names needed : List ℕ) where
   abbrev w : Inputs
   w = inputsOf set request starts old phase
 
   -- the queue so far: what is left of the run
   pub record RunAt (start : Line) (from : ℕ) (order packages : List ℕ) (q : Queue) : Type 0 where
-    pub lookup : Lookup set starts (phase .count) index
+    pub tables : Tables set request starts old phase index names needed
     pub running : Running (phase .count) set starts order packages q
     pub left : runAt w (suc (phase .count) - from) start ≡ runAt w (suc (phase .count) - q .head) (lineAt order q)
 
-  pub run-start : (order packages : List ℕ) (q : Queue) → Lookup set starts (phase .count) index → Running (phase .count) set starts order packages q
+  pub run-start : (order packages : List ℕ) (q : Queue) → Tables set request starts old phase index names needed → Running (phase .count) set starts order packages q
       → RunAt (lineAt order q) (q .head) order packages q
-  run-start order packages q k h = record { lookup = k; running = h; left = refl }
+  run-start order packages q k h = record { tables = k; running = h; left = refl }
 
   module _ (start : Line) (from : ℕ) (order packages : List ℕ) (q : Queue) (h : RunAt start from order packages q)
       (on : Bool) (eo : on ≡ (isOpen (q .halt) && not (eqb (q .head) (q .tail)))) where
@@ -106,8 +106,8 @@ module _ (set request starts old : List ℕ) (phase : Phase) (index : List ℕ) 
           go : (a b : ℕ) → (a ≡ b → ⊥) → a ≤ b → a < b
           go a b n l = omega (arith, n, l)
 
-      pub run-lookup : Lookup set starts (phase .count) index
-      run-lookup = h .lookup
+      pub run-tables : Tables set request starts old phase index names needed
+      run-tables = h .tables
 
       pub run-running : Running (phase .count) set starts order packages q
       run-running = h .running
@@ -128,7 +128,7 @@ module _ (set request starts old : List ℕ) (phase : Phase) (index : List ℕ) 
         next-head k = ap (λ (l : Line). l .head) (m .line) ∙ turned w (lineAt order q) (halt-is true k)
 
         pub run-again : RunAt start from order₂ packages₂ r
-        run-again = record { lookup = h .lookup; running = m .running; left = one-turn ∙ go (isOpen (r .halt)) refl }
+        run-again = record { tables = h .tables; running = m .running; left = one-turn ∙ go (isOpen (r .halt)) refl }
           where
             go : (b : Bool) → isOpen (r .halt) ≡ b → runAt w (phase .count - q .head) (lineAt order₂ r) ≡ runAt w (suc (phase .count) - r .head) (lineAt order₂ r)
             go true k = let f : phase .count - q .head ≡ suc (phase .count) - r .head = omega (arith, next-head k) in ap (λ (n : ℕ). runAt w n (lineAt order₂ r)) f
@@ -150,4 +150,4 @@ module _ (set request starts old : List ℕ) (phase : Phase) (index : List ℕ) 
             go true k = omega (arith, next-head k, run-waits, tail-few (phase .count) order q ready, ready .few)
             go false k = omega (arith, on-or-same)
 
-pub ruleset run-laws = (run-start, run-done, run-off, run-waits, run-lookup, run-running, run-again, run-less)
+pub ruleset run-laws = (run-start, run-done, run-off, run-waits, run-tables, run-running, run-again, run-less)

@@ -1,16 +1,18 @@
 -- What becomes of a name: what each return shows.
 use Prim.Native.Nat.{ℕ, zero, suc, _+_, _≤_}
-use mathlib.Core.Path.{_≡_, sym, _∙_}
+use mathlib.Core.Path.{_≡_, sym, _∙_, ap}
 use mathlib.Core.Bool.{Bool, true, false}
 use mathlib.Core.List.{List, [], _∷_, map}
 use native.Mathlib.Omega.{arith}
 use lib.ListN.{length, take, length-map}
+use lib.Seq.{take-length}
 use Rattle.records.specs.Bytes.{sameBytes}
-use Rattle.records.specs.Name.{javaBase, nameOf}
+use Rattle.records.specs.Name.{javaBase, memName, nameOf}
 use Rattle.records.specs.Descriptor.{requirementOf}
 use Rattle.records.specs.Request.{requestOf, isPermitted}
 use Rattle.records.specs.Set.{nameAt}
 use Rattle.records.specs.Finder.{findName}
+use Rattle.records.specs.Order.{nameIn, isOrdered}
 use Rattle.records.specs.Index.{Indexed}
 use Rattle.records.specs.declared.error.Input.{Input}
 use Rattle.records.specs.declared.error.Input.the-variants as Input
@@ -22,10 +24,59 @@ use Rattle.records.proofs.finder.Modules.{found-at}
 use Rattle.resolution.specs.Row.{holds}
 use Rattle.resolution.specs.Resolver.{Inputs, inputsOf, blockOf, locate, isMetBefore, wantAbsent, wantUnfound, wantFound, want, wantRecord, Within}
 use Rattle.resolution.specs.Filter.{askedBefore}
-use Rattle.resolution.specs.Lookup.{Lookup}
+use Rattle.resolution.specs.Known.{Limits, Met, Tables}
 use Rattle.resolution.specs.declared.resolver.Phase.{Phase}
 use Rattle.resolution.specs.declared.resolver.Wanted.{Wanted}
 use Rattle.resolution.specs.declared.resolver.Wanted.the-variants.{Pass, Add, Stop, Refuse}
+
+-- ---- whether the request permits an absent name
+
+module _ (request : List ℕ) (phase : Phase) (names n : List ℕ) (h : Limits request phase names) where
+  pub permits-free : phase .limited ≡ false → true ≡ isPermitted (requestOf request) n
+  permits-free t = sym (h .free t n)
+
+  module _ (k : phase .known ≡ true) (before : phase .in_round ≡ false) (b : Bool) (eb : b ≡ sameBytes n javaBase) where
+    pub permits-base : b ≡ true → true ≡ isPermitted (requestOf request) n
+    permits-base e = rw (← eb, e) at (h .permits k before n)
+
+    pub permits-listed : b ≡ false → (r : Bool) → r ≡ memName n (map (nameIn request) (take (length names) names)) → r ≡ isPermitted (requestOf request) n
+    permits-listed e r er = er ∙ ap (λ (l : List ℕ). memName n (map (nameIn request) l)) (take-length names) ∙ (rw (← eb, e) at (h .permits k before n))
+
+  pub permits-sorted : phase .known ≡ true → phase .in_round ≡ false → isOrdered (map (nameIn request) (take (length names) names)) ≡ true
+  permits-sorted k before = rw (take-length names) (h .sorted k before)
+
+pub whole-table : (l : List ℕ) → length l ≤ length l
+whole-table l = omega arith
+
+pub ruleset permits-laws = (permits-free, permits-base, permits-listed, permits-sorted, whole-table)
+
+-- ---- whether an absent name was met before the rounds
+
+module _ (set request starts old : List ℕ) (phase : Phase) (names needed n : List ℕ) (h : Met set request starts old phase names needed) where
+  abbrev v : Inputs
+  v = inputsOf set request starts old phase
+
+  module _ (k : phase .known ≡ true) (t : phase .in_round ≡ true) (b : Bool) (eb : b ≡ memName n (map (nameIn request) (take (length names) names))) where
+    root-is : memName n (map (nameIn request) names) ≡ b
+    root-is = sym (eb ∙ ap (λ (l : List ℕ). memName n (map (nameIn request) l)) (take-length names))
+
+    pub met-root : b ≡ true → true ≡ isMetBefore v n
+    met-root e = rw (root-is, e) at (h .met k t n)
+
+    pub met-needed : b ≡ false → (r : Bool) → r ≡ memName n (map (nameIn set) (take (length needed) needed)) → r ≡ isMetBefore v n
+    met-needed e r er = er ∙ ap (λ (l : List ℕ). memName n (map (nameIn set) l)) (take-length needed) ∙ (rw (root-is, e) at (h .met k t n))
+
+  pub met-sorted : phase .known ≡ true → phase .in_round ≡ true → isOrdered (map (nameIn request) (take (length names) names)) ≡ true
+  met-sorted k t = rw (take-length names) (h .sorted k t)
+
+  pub met-sorted-needed : phase .known ≡ true → phase .in_round ≡ true → isOrdered (map (nameIn set) (take (length needed) needed)) ≡ true
+  met-sorted-needed k t = rw (take-length needed) (h .sorted-needed k t)
+
+  pub met-before : (r : Bool) → r ≡ isMetBefore (askedBefore set request starts (take (phase .before) old)) n → r ≡ isMetBefore v n
+  unfolding inputsOf isMetBefore blockOf
+  met-before r er = er
+
+pub ruleset met-laws = (met-root, met-needed, met-sorted, met-sorted-needed, met-before, whole-table)
 
 -- ---- an absent name
 
@@ -33,24 +84,18 @@ module _ (set request starts old : List ℕ) (phase : Phase) (n : List ℕ) (e :
   abbrev w : Inputs
   w = inputsOf set request starts old phase
 
-  module _ (t : phase .in_round ≡ true) (r : Bool) (er : r ≡ isMetBefore (askedBefore set request starts (take (phase .before) old)) n) where
-    same-met : isMetBefore w n ≡ r
-    unfolding inputsOf isMetBefore blockOf
-    same-met = sym er
+  module _ (t : phase .in_round ≡ true) (r : Bool) (er : r ≡ isMetBefore w n) where
+    in-round : w .inRound ≡ true
+    unfolding inputsOf
+    in-round = t
 
     pub absent-met : r ≡ true → Pass ≡ wantUnfound w n e
     unfolding wantUnfound wantAbsent
-    absent-met h = sym (rw (same-met, h, in-round))
-      where
-        in-round : w .inRound ≡ true
-        in-round = unfold inputsOf in t
+    absent-met h = sym (rw (← er, h, in-round))
 
     pub absent-refuse : r ≡ false → Refuse e ≡ wantUnfound w n e
     unfolding wantUnfound wantAbsent
-    absent-refuse h = sym (rw (same-met, h, in-round))
-      where
-        in-round : w .inRound ≡ true
-        in-round = unfold inputsOf in t
+    absent-refuse h = sym (rw (← er, h, in-round))
 
   module _ (t : phase .in_round ≡ false) (r : Bool) (er : r ≡ isPermitted (requestOf request) n) where
     before-rounds : w .inRound ≡ false
@@ -129,16 +174,24 @@ module _ (set request starts old : List ℕ) (phase : Phase) (n : List ℕ) (opt
     unfolding want wantFound
     want-unfound t r er = sym (rw (located, h, t, er))
 
-pub want-few : (set starts : List ℕ) (count : ℕ) (index : List ℕ) → Lookup set starts count index → count ≤ 256
-want-few set starts count index h = h .few
+-- what the calls ask
+module _ (set request starts old : List ℕ) (phase : Phase) (index names needed : List ℕ) (h : Tables set request starts old phase index names needed) where
+  pub want-few : phase .count ≤ 256
+  want-few = h .lookup .few
 
-pub want-inside : (set starts : List ℕ) (count : ℕ) (index : List ℕ) → Lookup set starts count index → count ≤ length starts
-want-inside set starts count index h = h .within
+  pub want-inside : phase .count ≤ length starts
+  want-inside = h .lookup .within
 
-pub want-indexed : (set starts : List ℕ) (count : ℕ) (index : List ℕ) → Lookup set starts count index → Indexed (map (nameAt set) (take count starts)) index
-want-indexed set starts count index h = h .indexed
+  pub want-indexed : Indexed (map (nameAt set) (take (phase .count) starts)) index
+  want-indexed = h .lookup .indexed
 
-pub ruleset want-laws = (want-few, want-inside, want-indexed, want-add, want-pass, want-optional, want-unfound, within-add, within-pass)
+  pub want-limits : Limits request phase names
+  want-limits = h .limits
+
+  pub want-met : Met set request starts old phase names needed
+  want-met = h .met
+
+pub ruleset want-laws = (want-few, want-inside, want-indexed, want-limits, want-met, want-add, want-pass, want-optional, want-unfound, within-add, within-pass)
 
 -- ---- a record
 

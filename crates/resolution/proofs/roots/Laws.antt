@@ -5,16 +5,20 @@ use mathlib.Core.Bool.{Bool, true, false, not}
 use mathlib.Core.List.{List, [], map}
 use native.Mathlib.Omega.{arith}
 use lib.ListN.{length, take, drop, replicate, length-replicate}
+use lib.Seq.{length-take-le}
 use Rattle.records.specs.Name.{javaBase, memName, nameOf}
 use Rattle.records.specs.Record.{records, bodies}
 use Rattle.records.specs.Request.{requestOf}
 use Rattle.records.specs.declared.error.Input.the-variants as Input
 use Rattle.records.specs.declared.error.ModuleError.the-variants.{JavaBaseNotFound}
 use Rattle.records.specs.declared.record.Kind.the-variants as Kind
+use Rattle.records.proofs.Logic.{clash}
 use Rattle.resolution.specs.Resolver.{Inputs, inputsOf, want, Line, lineAt, isOneOf, pickLine, queued, queueIn, runAt, roundsAt, frontAt, rootsAt, firstAt, thenRounds, startOn, resolveAt, Ready, Fresh, Moved}
 use Rattle.resolution.specs.Filter.{asked}
 use Rattle.resolution.specs.Lookup.{Lookup}
+use Rattle.resolution.specs.Known.{Limited, LimitTold, Tables, Later}
 use Rattle.resolution.specs.Runs.{Running, Ran}
+use Rattle.resolution.specs.declared.limits.Listed.{Listed}
 use Rattle.resolution.specs.declared.resolver.Halt.{Halt}
 use Rattle.resolution.specs.declared.resolver.Halt.the-variants as Halt
 use Rattle.resolution.specs.declared.resolver.Phase.{Phase}
@@ -22,7 +26,7 @@ use Rattle.resolution.specs.declared.resolver.Queue.{Queue}
 use Rattle.resolution.specs.declared.resolver.Wanted.{Wanted}
 use Rattle.resolution.proofs.row.Counts.{count-le}
 use Rattle.resolution.proofs.filter.Covers.{covers-none}
-use Rattle.resolution.proofs.resolver.Turns.{longer-queued, longer-records}
+use Rattle.resolution.proofs.resolver.Turns.{longer-queued, longer-records, tail-long}
 
 module _ (set request starts : List ℕ) (phase : Phase) where
   abbrev w : Inputs
@@ -105,23 +109,70 @@ pub ruleset first-laws = (first-running, first-ran)
 
 -- ---- the whole
 
-pub order-fresh : (set starts : List ℕ) (count : ℕ) (index : List ℕ) → Lookup set starts count index → Fresh count (replicate 256 0)
-order-fresh set starts count index h = record { long = length-replicate {A = ℕ} 256 0; few = h .few }
+module _ (set request starts : List ℕ) (phase : Phase) (index names : List ℕ) (h : Tables set request starts starts phase index names names) where
+  pub order-fresh : Fresh (phase .count) (replicate 256 0)
+  order-fresh = record { long = length-replicate {A = ℕ} 256 0; few = h .lookup .few }
 
-module _ (set request starts words : List ℕ) (count : ℕ) (order packages : List ℕ) (q : Queue)
-    (m : Ran count set starts order packages q (firstAt (inputsOf set request starts starts (record { count = count; permitted = words; in_round = false; before = 0 })))) where
-  pub order-running : Running count set starts order packages q
+  pub order-later : length request ≤ 65535 → (old : List ℕ) (before : ℕ) → before ≤ length old
+      → Later set request starts old (record { count = phase .count; permitted = phase .permitted; in_round = true; before = before; limited = phase .limited; known = false }) index
+  order-later s old before l = record {
+    lookup = h .lookup;
+    short = s;
+    within = l;
+    later = refl;
+    unknown = refl;
+    free = h .limits .free;
+  }
+
+module _ (set request starts : List ℕ) (phase : Phase) (order packages : List ℕ) (q : Queue)
+    (m : Ran (phase .count) set starts order packages q (firstAt (inputsOf set request starts starts phase))) where
+  pub order-running : Running (phase .count) set starts order packages q
   order-running = m .running
 
+  pub order-within : q .tail ≤ length order
+  order-within = tail-long (phase .count) order q (m .running .ready)
+
   pub order-is : (order₂ : List ℕ) (r : Queue)
-      → Moved count order₂ r (roundsAt (inputsOf set request starts order (record { count = count; permitted = words; in_round = true; before = q .tail })) (suc count) (lineAt order q))
-      → lineAt order₂ r ≡ resolveAt (startOn set request count starts words)
+      → Moved (phase .count) order₂ r
+      (roundsAt (inputsOf set request starts order (record { count = phase .count; permitted = phase .permitted; in_round = true; before = q .tail; limited = phase .limited; known = false })) (suc (phase .count)) (lineAt order q))
+      → lineAt order₂ r ≡ resolveAt (inputsOf set request starts starts phase)
   unfolding resolveAt thenRounds inputsOf lineAt
   order-is order₂ r n =
       n .line
-      ∙ ap (λ (l : Line). roundsAt (record { set = set; request = request; starts = starts; count = count; permitted = words; inRound = true; before = l .order }) (suc count) l) (m .line)
+      ∙ ap (λ (l : Line). roundsAt (record { set = set; request = request; starts = starts; count = phase .count; permitted = phase .permitted; inRound = true; before = l .order }) (suc (phase .count)) l) (m .line)
 
-pub order-wide : length (replicate {A = ℕ} 1024 0) ≡ 1024
-order-wide = length-replicate {A = ℕ} 1024 0
+pub ruleset order-laws = (order-fresh, order-later, order-running, order-within, order-is)
 
-pub ruleset order-laws = (order-fresh, order-running, order-is, order-wide)
+-- ---- with and without an LM
+
+module _ (set request starts words : List ℕ) (count : ℕ) (index : List ℕ) (k : Lookup set starts count index) where
+  pub listed-tables : (table : List ℕ) (r : Listed) → LimitTold request table r
+      → Tables set request starts starts (record { count = count; permitted = words; in_round = false; before = 0; limited = true; known = r .known }) index (take (r .count) table) (take (r .count) table)
+  listed-tables table r h = record {
+    lookup = k;
+    limits = record { free = λ e. clash (cc); sorted = λ e b. h .sorted e; permits = λ e b. h .permits e };
+    met = record { sorted = λ e b. clash (cc); sorted-needed = λ e b. clash (cc); met = λ e b. clash (cc) };
+  }
+
+  pub free-tables : (l : Bool) → Limited request l → l ≡ false → (names : List ℕ)
+      → Tables set request starts starts (record { count = count; permitted = words; in_round = false; before = 0; limited = false; known = false }) index names names
+  free-tables l h e names = record {
+    lookup = k;
+    limits = record { free = λ z. h .free e; sorted = λ z. clash (cc); permits = λ z. clash (cc) };
+    met = record { sorted = λ z. clash (cc); sorted-needed = λ z. clash (cc); met = λ z. clash (cc) };
+  }
+
+pub listed-room : (request table : List ℕ) (r : Listed) → LimitTold request table r → r .count ≤ length table
+listed-room request table r h = h .room
+
+pub listed-part : (request table : List ℕ) (r : Listed) → LimitTold request table r → r .count ≡ length (take (r .count) table)
+listed-part request table r h = sym (length-take-le (r .count) table (h .room))
+
+pub started : (set request starts words : List ℕ) (count : ℕ) (limited known : Bool) (l : Line)
+    → l ≡ resolveAt (inputsOf set request starts starts (record { count = count; permitted = words; in_round = false; before = 0; limited = limited; known = known })) → l ≡ resolveAt (startOn set request count starts words)
+unfolding inputsOf
+started set request starts words count limited known l e = e
+
+pub ruleset listed-laws = (listed-tables, listed-room, listed-part, started)
+
+pub ruleset free-laws = (free-tables, started)

@@ -5,16 +5,18 @@ use mathlib.Core.Bool.{Bool, true, false, not, _&&_}
 use mathlib.Core.List.{List, [], _∷_, _++_}
 use native.Mathlib.Omega.{arith}
 use lib.Dec.{eqb}
-use lib.ListN.{length, getD, take, length-append}
+use lib.ListN.{length, getD, take, replicate, length-append, length-replicate}
 use lib.Seq.{length-take-le, take-take}
 use borrow.Author.Tests.{eqb-true, eqb-false, eq-eqb}
 use Rattle.records.specs.Record.{records}
 use Rattle.records.specs.declared.error.Input.the-variants as Input
 use Rattle.records.proofs.Logic.{clash}
 use Rattle.resolution.specs.Row.{one}
-use Rattle.resolution.specs.Resolver.{Inputs, inputsOf, startOf, blockOf, Line, lineAt, isOneOf, pickLine, Ready, Moved, splitAt, advancedAt, handledAt, handleAt, isOpen, goesOn, runAt, isProviderAt, provideAt, isDone, roundAt, roundsAt}
-use Rattle.resolution.specs.Lookup.{Lookup}
+use Rattle.resolution.specs.Resolver.{Inputs, inputsOf, startOf, blockOf, Line, lineAt, isOneOf, pickLine, Ready, Moved, splitAt, advancedAt, handledAt, handleAt, isOpen, goesOn, runAt, isProviderAt, provideAt, isDone, roundAt, roundsAt, isMetBefore}
+use Rattle.resolution.specs.Filter.{requiresIn, isRequired}
+use Rattle.resolution.specs.Known.{RootsTold, NeededTold, Tables, Later}
 use Rattle.resolution.specs.Runs.{Running, Ran, Told, Unbound, Binding, Between, Rounded}
+use Rattle.resolution.specs.declared.limits.Listed.{Listed}
 use Rattle.resolution.specs.declared.resolver.Halt.{Halt}
 use Rattle.resolution.specs.declared.resolver.Halt.the-variants as Halt
 use Rattle.resolution.specs.declared.resolver.Phase.{Phase}
@@ -220,8 +222,8 @@ module _ (set request starts old : List ℕ) (phase : Phase) where
           ap (λ (c : Bool). pickLine c (roundsAt w f (roundAt w l)) l) z
 
   -- so many rounds are left at most
-  pub record RoundsAt (index order₀ packages₀ table₀ : List ℕ) (start : Line) (order packages table : List ℕ) (bound : ℕ) (q : Queue) : Type 0 where
-    pub lookup : Lookup set starts (phase .count) index
+  pub record RoundsAt (index names needed order₀ packages₀ table₀ : List ℕ) (start : Line) (order packages table : List ℕ) (bound : ℕ) (q : Queue) : Type 0 where
+    pub tables : Tables set request starts old phase index names needed
     pub order-long : length order₀ ≡ 256
     pub packages-long : length packages₀ ≡ 1024
     pub table-long : length table ≡ length table₀
@@ -230,11 +232,11 @@ module _ (set request starts old : List ℕ) (phase : Phase) where
     pub enough : isDone (q .halt) ≡ true → phase .count < fuel + q .head
     pub left : roundsAt w (suc (phase .count)) start ≡ roundsAt w fuel (lineAt order q)
 
-  pub rounds-start : (index order packages table : List ℕ) (q : Queue) → Lookup set starts (phase .count) index → Between phase set starts order packages 0 q
-      → RoundsAt index order packages table (lineAt order q) order packages table 0 q
-  rounds-start index order packages table q k h = record { lookup = k; order-long = h .running .ready .long; packages-long = h .running .wide; table-long = refl; between = h; fuel = suc (phase .count); enough = λ e. omega arith; left = refl }
+  pub rounds-start : (index names needed order packages table : List ℕ) (q : Queue) → Tables set request starts old phase index names needed → Between phase set starts order packages 0 q
+      → RoundsAt index names needed order packages table (lineAt order q) order packages table 0 q
+  rounds-start index names needed order packages table q k h = record { tables = k; order-long = h .running .ready .long; packages-long = h .running .wide; table-long = refl; between = h; fuel = suc (phase .count); enough = λ e. omega arith; left = refl }
 
-  module _ (index order₀ packages₀ table₀ : List ℕ) (start : Line) (order packages table : List ℕ) (bound : ℕ) (q : Queue) (h : RoundsAt index order₀ packages₀ table₀ start order packages table bound q) (d : Bool) (ed : d ≡ isDone (q .halt)) where
+  module _ (index names needed order₀ packages₀ table₀ : List ℕ) (start : Line) (order packages table : List ℕ) (bound : ℕ) (q : Queue) (h : RoundsAt index names needed order₀ packages₀ table₀ start order packages table bound q) (d : Bool) (ed : d ≡ isDone (q .halt)) where
     was-ready : Ready (phase .count) order q
     was-ready = h .between .running .ready
 
@@ -242,8 +244,8 @@ module _ (set request starts old : List ℕ) (phase : Phase) where
     unfolding lineAt
     rounds-ended e = record { line = sym (h .left ∙ not-done w (h .fuel) (lineAt order q) (sym ed ∙ e)); ready = was-ready }
 
-    pub rounds-lookup : Lookup set starts (phase .count) index
-    rounds-lookup = h .lookup
+    pub rounds-tables : Tables set request starts old phase index names needed
+    rounds-tables = h .tables
 
     pub rounds-between : Between phase set starts order packages bound q
     rounds-between = h .between
@@ -321,9 +323,9 @@ module _ (set request starts old : List ℕ) (phase : Phase) where
             go : (a b : ℕ) → (b ≡ a → ⊥) → a ≤ b → a < b
             go a b x l = omega (arith, x, l)
 
-        pub rounds-again : (table₂ : List ℕ) → length table₂ ≡ length table → RoundsAt index order₀ packages₀ table₀ start order₂ packages₂ table₂ (q .head) r
+        pub rounds-again : (table₂ : List ℕ) → length table₂ ≡ length table → RoundsAt index names needed order₀ packages₀ table₀ start order₂ packages₂ table₂ (q .head) r
         rounds-again table₂ g = record {
-          lookup = h .lookup;
+          tables = h .tables;
           order-long = h .order-long;
           packages-long = h .packages-long;
           table-long = g ∙ h .table-long;
@@ -343,4 +345,64 @@ module _ (set request starts old : List ℕ) (phase : Phase) where
 
 pub ruleset round-laws = (round-unbound, round-running, round-ran)
 
-pub ruleset rounds-laws = (rounds-start, rounds-ended, rounds-lookup, rounds-between, rounds-open, rounds-none, rounds-again, rounds-less)
+pub ruleset rounds-laws = (rounds-start, rounds-ended, rounds-tables, rounds-between, rounds-open, rounds-none, rounds-again, rounds-less)
+
+-- ---- what is known of the names met before
+
+module _ (set request starts old : List ℕ) (phase : Phase) (index : List ℕ) (h : Later set request starts old phase index) where
+  pub later-short : length request ≤ 65535
+  later-short = h .short
+
+  pub later-within : phase .before ≤ length old
+  later-within = h .within
+
+  -- without an LM
+  pub later-free : (names needed : List ℕ) → Tables set request starts old phase index names needed
+  later-free names needed = record {
+    lookup = h .lookup;
+    limits = record { free = h .free; sorted = λ e. clash (cc); permits = λ e. clash (cc) };
+    met = record { sorted = λ e. clash (cc); sorted-needed = λ e. clash (cc); met = λ e. clash (cc) };
+  }
+    where
+      unknown : phase .known ≡ false
+      unknown = h .unknown
+
+  -- with one
+  pub later-told : (roots needed : List ℕ) (n : ℕ) (r : Listed) → RootsTold request roots n → NeededTold set starts old (phase .before) needed r
+      → Tables set request starts old (record { count = phase .count; permitted = phase .permitted; in_round = phase .in_round; before = phase .before; limited = true; known = r .known }) index (take n roots) (take (r .count) needed)
+  unfolding isMetBefore inputsOf isRequired requiresIn blockOf
+  later-told roots needed n r a b =
+      let t : phase .in_round ≡ true = h .later in
+      record {
+        lookup = h .lookup;
+        limits = record { free = λ e. clash (cc); sorted = λ e k. clash (cc); permits = λ e k. clash (cc) };
+        met = record { sorted = λ e k. a .sorted; sorted-needed = λ e k. b .sorted; met = λ e k x. rw (a .told x, b .told e x) };
+      }
+
+pub roots-room : (request table : List ℕ) (n : ℕ) → RootsTold request table n → n ≤ length table
+roots-room request table n h = h .room
+
+pub roots-part : (request table : List ℕ) (n : ℕ) → RootsTold request table n → n ≡ length (take n table)
+roots-part request table n h = sym (length-take-le n table (h .room))
+
+pub needed-room : (set starts order : List ℕ) (n : ℕ) (table : List ℕ) (r : Listed) → NeededTold set starts order n table r → r .count ≤ length table
+needed-room set starts order n table r h = h .room
+
+pub needed-part : (set starts order : List ℕ) (n : ℕ) (table : List ℕ) (r : Listed) → NeededTold set starts order n table r → r .count ≡ length (take (r .count) table)
+needed-part set starts order n table r h = sym (length-take-le (r .count) table (h .room))
+
+pub roots-wide : 16384 ≤ length (replicate {A = ℕ} 16384 0)
+roots-wide = rw (length-replicate {A = ℕ} 16384 0) (omega arith)
+
+pub later-set : (count : ℕ) (set starts order packages : List ℕ) (q : Queue) → Running count set starts order packages q → length set ≤ 65535
+later-set count set starts order packages q h = h .short
+
+-- whether names are known does not matter for what the rounds give
+pub told-moved : (set request starts old : List ℕ) (phase : Phase) (known : Bool) (order : List ℕ) (r : Queue) (l : Line)
+    → Moved (phase .count) order r
+    (roundsAt (inputsOf set request starts old (record { count = phase .count; permitted = phase .permitted; in_round = phase .in_round; before = phase .before; limited = true; known = known })) (suc (phase .count)) l)
+    → Moved (phase .count) order r (roundsAt (inputsOf set request starts old phase) (suc (phase .count)) l)
+unfolding inputsOf
+told-moved set request starts old phase known order r l m = m
+
+pub ruleset told-laws = (later-short, later-within, later-told, roots-room, roots-part, needed-room, needed-part, later-set, told-moved)

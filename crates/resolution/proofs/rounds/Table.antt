@@ -14,6 +14,7 @@ use Rattle.records.specs.Order.{nameIn, isOrdered, Inserted}
 use Rattle.records.specs.Record.{bodies, nextIn, nextOf}
 use Rattle.records.specs.Set.{blockAt}
 use Rattle.records.specs.declared.record.Cursor.{Cursor}
+use Rattle.records.specs.declared.record.Kind.{Kind}
 use Rattle.records.specs.declared.record.Kind.the-variants as Kind
 use Rattle.records.specs.declared.record.Next.{Next}
 use Rattle.records.specs.declared.record.Next.the-variants.{Body, Nothing}
@@ -32,9 +33,13 @@ use Rattle.resolution.proofs.modules.Shared.{take-few}
 
 -- ---- tests
 
-or-none : (a : Bool) → (a || false) ≡ a
+pub or-none : (a : Bool) → (a || false) ≡ a
 or-none true = refl
 or-none false = refl
+
+pub or-back : (a b c : Bool) → ((a || b) || c) ≡ (a || (b || c))
+or-back true b c = refl
+or-back false b c = refl
 
 or-move : (a b c : Bool) → ((a || b) || c) ≡ (b || (a || c))
 or-move true true c = refl
@@ -60,13 +65,13 @@ module _ (set source b n : List ℕ) (to start len : ℕ) (es : source ≡ take 
       (ap (drop 1) eb ∙ drop-take 1 len (drop start source)
       ∙ ap (take (len - 1)) (drop-drop 1 start source ∙ ap (drop (start + 1)) es ∙ drop-take (start + 1) to set))
 
-  name-short : length n ≤ length set
+  pub name-short : length n ≤ length set
   name-short =
       let x : List ℕ = drop (start + 1) set in
       let y : List ℕ = take (to - (start + 1)) x in
       omega (arith, ap length part-of, take-few (getD b 0 0) (take (len - 1) y), take-few (len - 1) y, take-few (to - (start + 1)) x, length-drop (start + 1) set)
 
-  entry-name : length set ≤ 65535 → nameIn set ((start + 1) * 65536 + length n) ≡ n
+  pub entry-name : length set ≤ 65535 → nameIn set ((start + 1) * 65536 + length n) ≡ n
   unfolding nameIn
   entry-name h =
       let l : length n ≤ length set = name-short in
@@ -75,6 +80,16 @@ module _ (set source b n : List ℕ) (to start len : ℕ) (es : source ≡ take 
       rw (a, r) (rw (← part-of) at (take-front (getD b 0 0) (len - 1) (to - (start + 1)) (drop (start + 1) set)))
 
 -- ---- the records of one module
+
+pub body-inside : (k : Kind) (source : List ℕ) (at : ℕ) (r : Next) → r ≡ nextOf k source at → (start len : ℕ) (next : Cursor) → r ≡ Body start len next → at ≤ length source
+unfolding nextOf nextIn
+body-inside k source at r er start len next e = go (ltb at (length source)) refl
+  where
+    go : (b : Bool) → ltb at (length source) ≡ b → at ≤ length source
+    go true t = omega (arith, ltb-true at (length source) t)
+    go false t =
+        let z : nextOf k source at ≡ Nothing = rw (records-end source at (ltb-false at (length source) t)) in
+        clash (cc)
 
 -- the services before `at` are in the table, and those from `at` on are still to come
 pub record AddAt (set source : List ℕ) (from to : ℕ) (before : List ℕ) (s : Services) (table : List ℕ) (count at : ℕ) : Type 0 where
@@ -95,14 +110,7 @@ module _ (set source : List ℕ) (from to : ℕ) (before : List ℕ) (s : Servic
   module _ (r : Next) (er : r ≡ nextOf Kind.Uses source at) where
     module _ (start len : ℕ) (next : Cursor) (e : r ≡ Body start len next) where
       inside : at ≤ length source
-      unfolding nextOf nextIn
-      inside = go (ltb at (length source)) refl
-        where
-          go : (b : Bool) → ltb at (length source) ≡ b → at ≤ length source
-          go true t = omega (arith, ltb-true at (length source) t)
-          go false t =
-              let z : nextOf Kind.Uses source at ≡ Nothing = rw (records-end source at (ltb-false at (length source) t)) in
-              clash (cc)
+      inside = body-inside Kind.Uses source at r er start len next e
 
       start-fits : start ≤ 65535
       start-fits = omega (arith, body-room Kind.Uses source at r er start len next e inside, ap length (h .source-is), take-few to set, h .short)
@@ -192,10 +200,6 @@ module _ (set starts order : List ℕ) (from to : ℕ) where
           ∙ ap (λ (ps : List ℕ). memName x (toldIn set table (s .count)) || hasNamed (asked set starts) Kind.Uses ps x) (sym (rest-more order to k l (order-index l)))
           ∙ h .left (m .was z) x);
     }
-      where
-        or-back : (a b c : Bool) → ((a || b) || c) ≡ (a || (b || c))
-        or-back true b c = refl
-        or-back false b c = refl
 
     pub order-done : to ≤ k → Told set starts order from to table s
     unfolding hasNamed any

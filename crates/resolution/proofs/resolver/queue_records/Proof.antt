@@ -7,10 +7,10 @@ use Rattle.resolution.proofs.resolver.queue_records.Statement.{statemen
 use Rattle.resolution.proofs.resolver.queue_records.Tie as tie
 
 abbrev Inv-loop : tie.InvT-loop
-Inv-loop set request starts old phase index input source at order₀ kind c₀ line₀ order c line = RecordsAt set request starts old phase index input kind source at (c .at) (lineAt order₀ line₀) order line
+Inv-loop set request starts old phase index names needed input source at order₀ kind c₀ line₀ order c line = RecordsAt set request starts old phase index names needed input kind source at (c .at) (lineAt order₀ line₀) order line
 
 abbrev μ-loop : tie.MeasureT-loop
-μ-loop set request starts old phase index input source at order₀ kind c₀ line₀ order c line = length source - c .at
+μ-loop set request starts old phase index names needed input source at order₀ kind c₀ line₀ order c line = length source - c .at
 
 pub queue-records-spec : {M : Type 1} → statement M
 queue-records-spec =

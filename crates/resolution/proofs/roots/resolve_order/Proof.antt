@@ -1,4 +1,4 @@
-use Rattle.resolution.proofs.roots.Laws.{order-laws}
+use Rattle.resolution.proofs.roots.Laws.{free-laws}
 use borrow.Author.Needs.{needs}
 use Rattle.resolution.proofs.roots.resolve_order.Statement.{statement}
 use Rattle.resolution.proofs.roots.resolve_order.Tie as tie
@@ -7,11 +7,8 @@ pub resolve-order-spec : {M : Type 1} → statement M
 resolve-order-spec =
     tie.close
     (tie.spec
-    (λ c. search (order-laws, needs))
-    (λ c. search (order-laws, needs))
-    (λ c κs. (search needs, (search (order-laws, needs), (search (order-laws, needs), (search (order-laws, needs), search (order-laws, needs))))))
-    (λ c. search (order-laws, needs))
-    (λ c. search (order-laws, needs))
-    (λ c. search (order-laws, needs))
-    (λ c κs. search (order-laws, needs))
-    (λ c. search (order-laws, needs)))
+    (λ c κs. search (free-laws, needs))
+    (λ c κs. search (free-laws, needs))
+    (λ c. search (free-laws, needs))
+    (λ c κs. search (free-laws, needs))
+    (λ c. search (free-laws, needs)))

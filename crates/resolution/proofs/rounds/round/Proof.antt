@@ -12,4 +12,4 @@ round-spec =
     (λ c. search (round-laws, needs))
     (λ c. search (round-laws, needs))
     (λ c. search (round-laws, needs))
-    (λ c. search (round-laws, c .before .before .before .before .before .before .before .before .before .before .before .before .before .before .before .before .before .before .before .before .before .before .pre, needs)))
+    (λ c. search (round-laws, c .before .before .before .before .before .before .before .before .before .before .before .before .before .before .before .before .before .before .before .before .before .before .before .before .pre, needs)))

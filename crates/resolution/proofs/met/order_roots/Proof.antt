@@ -1,0 +1,12 @@
+use Rattle.resolution.proofs.met.Laws.{roots-laws}
+use borrow.Author.Needs.{needs}
+use Rattle.resolution.proofs.met.order_roots.Statement.{statement}
+use Rattle.resolution.proofs.met.order_roots.Tie as tie
+
+pub order-roots-spec : {M : Type 1} → statement M
+order-roots-spec =
+    tie.close
+    (tie.spec
+    (λ c κs. search (roots-laws, needs))
+    (λ c. search (roots-laws, needs))
+    (λ c. search (roots-laws, needs)))
