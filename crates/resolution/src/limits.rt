@@ -31,7 +31,8 @@ pub fn is_limited(request: &[u8]) -> bool
     }
 }
 
-// Puts the names of the LM in order into the table, if it has room for them.
+// Puts the names of the LM in order into the table, if it has room for them and the LM is a list, as it is where the check takes
+// the request.
 pub fn order_limits(request: &[u8], table: &mut [usize]) -> Listed
     requires { ⌜ length (now request) ≤ 65535 ⌝ }
     ensures { λ r. ⌜ LimitTold (now (request .entry)) (now (table .exit)) r ⌝ }

@@ -212,7 +212,7 @@ fn resolve_listed(
     resolve_from(set, request, starts, phase, index, &table[..listed.count])
 }
 
-// The same, with a table for the most names that differ.
+// The same, with a table for as many names as an LM has.
 fn resolve_limited(
     set: &[u8],
     request: &[u8],

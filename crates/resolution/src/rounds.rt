@@ -426,7 +426,7 @@ fn told_rounds(
     )
 }
 
-// The rounds of a request with an LM.
+// The rounds of a request with an LM, with tables for as many roots and requirements as there are.
 fn limited_rounds(
     set: &[u8],
     request: &[u8],
