@@ -192,6 +192,16 @@ fn resolutions(t: &mut Table) {
         fill(base(), LIMIT, |i| requires(&name(2, i), 0)),
         all_of(&downward(16_380)),
     );
+    let shortest = || {
+        let mut names: Vec<String> = (0..8_836).map(|i| name(2, i)).chain((0..9_750).map(|i| name(3, 85 * i))).collect();
+        names.sort_by(|a, b| b.cmp(a));
+        names
+    };
+    t.resolve(
+        "6,500 RQ of an absent name, LM of 18,500 others, all different, against the order",
+        fill(base(), LIMIT, |_| requires("~~~", 0)),
+        all_of(&shortest()),
+    );
     t.resolve(
         "4,000 absent RT, all different, LM of 8,000 others against the order",
         base(),
@@ -233,7 +243,7 @@ fn resolutions(t: &mut Table) {
         root("a"),
     );
     t.resolve(
-        "256 modules with one hash, 2,900 RQ of the first",
+        "254 modules with one hash, 3,000 RQ of the first",
         {
             let set = modules((1..255).map(alike));
             fill([set, module("a")].concat(), LIMIT, |_| requires(&alike(1), TRANSITIVE))
@@ -241,7 +251,7 @@ fn resolutions(t: &mut Table) {
         root("a"),
     );
     t.resolve(
-        "256 modules with one hash, 2,900 static RQ of absent names with it",
+        "254 modules with one hash, 3,000 static RQ of absent names with it",
         {
             let set = modules((1..255).map(alike));
             fill([set, module("a")].concat(), LIMIT, |i| requires(&alike(1_000 + i), STATIC))
@@ -334,7 +344,7 @@ fn resolutions(t: &mut Table) {
         (0..250).flat_map(|i| root(&name(2, i))).collect(),
     );
     t.resolve(
-        "two modules with 5,400 PK, in each one that stands twice",
+        "two modules with 4,090 PK each, one of them twice",
         {
             let twice = |n: &str| [package(n), package(n)].concat();
             let set = fill([base(), module("a"), twice("!")].concat(), LIMIT / 2, |i| package(&name(3, i)));
@@ -355,7 +365,7 @@ fn resolutions(t: &mut Table) {
         Vec::new(),
     );
     t.resolve(
-        "10,000 US, 500 PV of services that nobody uses",
+        "8,700 US, 450 PV of services that nobody uses",
         {
             let set = fill(base(), LIMIT - 4_500, |i| uses(&name(2, i % 8_000)));
             fill([set, module("a")].concat(), LIMIT, |i| provides(&name(3, i), &[]))
@@ -363,7 +373,7 @@ fn resolutions(t: &mut Table) {
         Vec::new(),
     );
     t.resolve(
-        "8,300 US against the order, 1,000 PV of services that nobody uses",
+        "8,070 US against the order, 900 PV of services that nobody uses",
         {
             let set = fill(base(), LIMIT - 9_000, |i| uses(&name(2, 8_800 - i % 8_800)));
             fill([set, module("a")].concat(), LIMIT, |i| provides(&name(3, i), &[]))
@@ -408,9 +418,9 @@ fn resolutions(t: &mut Table) {
         });
         fill([set, module("a")].concat(), LIMIT, |i| provides(&format!("m{}~", name(2, i * 2 % 8_800)), &[]))
     };
-    t.resolve("254 rounds with 2 new US each, a module with 4,400 PV", broad(1), Vec::new());
-    t.resolve("254 rounds with 5 new US each, a module with 3,700 PV", broad(4), Vec::new());
-    t.resolve("254 rounds with 13 new US each, a module with 2,100 PV", broad(12), Vec::new());
+    t.resolve("254 rounds with 2 new US each, a module with 5,080 PV", broad(1), Vec::new());
+    t.resolve("254 rounds with 5 new US each, a module with 4,520 PV", broad(4), Vec::new());
+    t.resolve("254 rounds with 13 new US each, a module with 3,050 PV", broad(12), Vec::new());
     t.resolve(
         "a round with 7,000 RQ of an absent name that is the last of 10,900 RT",
         {
@@ -431,7 +441,7 @@ fn resolutions(t: &mut Table) {
         fill(limit(&["a"]), LIMIT, |_| root("!")),
     );
     t.resolve(
-        "a round with 5,900 RQ of absent names, all different and all among 9,000 RT against the order",
+        "a round with 6,540 RQ of absent names, all different and all among 9,360 RT against the order",
         {
             let set = [base(), uses("s"), module("a"), provides("s", &[])].concat();
             fill(set, LIMIT, |i| requires(&name(2, i + 1), 0))
@@ -439,7 +449,7 @@ fn resolutions(t: &mut Table) {
         fill(limit(&["a"]), LIMIT, |i| root(&name(2, 8_800 - i % 8_800))),
     );
     t.resolve(
-        "a round with 2,900 RQ of absent names, all different, that another module requires against the order",
+        "a round with 3,270 RQ of 2,900 absent names that another module requires against the order",
         {
             let set = fill([base(), uses("s")].concat(), LIMIT / 2, |i| requires(&name(2, 3_500 - i), 0));
             fill([set, module("a"), provides("s", &[])].concat(), LIMIT, |i| requires(&name(2, 600 + i % 2_900), 0))

@@ -16,7 +16,20 @@ fn alike(i: usize) -> String {
         [80 + t, 80 - 3 * t, 80 + 3 * t, 80 - t].map(|x| x as u8)
     };
     assert!(i < 31 * 31);
-    String::from_utf8([four(i / 31), four(i % 31)].concat()).unwrap()
+    let name = String::from_utf8([four(i / 31), four(i % 31)].concat()).unwrap();
+    assert_eq!(hash(&name), hash("PPPPPPPP"));
+    name
+}
+
+/// What `records::index::hash` makes of a name.
+fn hash(name: &str) -> u64 {
+    let (mut a, mut b, mut c) = (0, 0, 0);
+    for x in name.bytes() {
+        a += u64::from(x);
+        b += a;
+        c += b;
+    }
+    (a + b * 509 + c * 65_521) * 40_503
 }
 
 /// How many modules start.
@@ -36,7 +49,7 @@ fn many_services() {
 
 #[test]
 fn new_services_only() {
-    // b uses what a provides; a was bound in the round before, and c uses what nobody new provides.
+    // a is bound in the first round for s, c in the second for t, which a uses; nobody uses u.
     let set = [
         module("java.base"),
         uses("s"),

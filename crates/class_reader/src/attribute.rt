@@ -85,7 +85,7 @@ fn measure_contents(file: &[u8], pool: &[u16], a: Attribute, p: usize, end: usiz
     }
 }
 
-// What the contents of Module measure: m, or k if this one is Module.
+// What the contents of Module measure: k if this attribute is Module, else m as before.
 fn keep(a: Attribute, m: Measured, k: Measured) -> Measured
     ensures { λ r. ⌜ r ≡ keep a m k ⌝ }
 {

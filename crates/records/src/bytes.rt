@@ -16,7 +16,8 @@ fn and_equal(equal: bool, a: u8, b: u8) -> bool
     false
 }
 
-// Whether a and b hold the same bytes. The lengths are compared first; then all bytes are, several at once.
+// Whether a and b hold the same bytes. The lengths are compared first. There is no early exit from the bytes, so that the compiler
+// can take several at once.
 pub fn same(a: &[u8], b: &[u8]) -> bool
     ensures { λ r. ⌜ r ≡ sameBytes (now (a .entry)) (now (b .entry)) ⌝ }
 {

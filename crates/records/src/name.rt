@@ -28,7 +28,7 @@ fn and_printable(good: bool, b: u8) -> bool
     and_le(and_le(good, 0x21, b), b, 0x7E)
 }
 
-// Whether every byte of s is from 0x21 to 0x7E. All are read, which takes several at once.
+// Whether every byte of s is from 0x21 to 0x7E. There is no early exit, so that the compiler can take several at once.
 pub fn printable(s: &[u8]) -> bool
     ensures { λ r. ⌜ r ≡ isPrintable (now (s .entry)) ⌝ }
 {

@@ -1,4 +1,4 @@
-// The absent names that were met before the rounds: the roots, and what the modules resolved by then require, each in order.
+// The names that were met before the rounds: the roots, and what the modules resolved by then require, each in order.
 ghost use mathlib.Core.Path.{_≡_};
 ghost use mathlib.Core.Bool.{true};
 ghost use mathlib.Core.List.{map};
@@ -28,7 +28,7 @@ pub fn order_roots(request: &[u8], table: &mut [usize]) -> usize
     insert_names(request, 0, request.len(), Kind::Root, table, 0)
 }
 
-// Puts the name of a requirement of the first `to` bytes where it belongs among the first `count`, unless it is static.
+// Puts the name that the RQ with its body at `start` requires where it belongs among the first `count`, unless it is static.
 fn put_needed(
     set: &[u8],
     to: usize,

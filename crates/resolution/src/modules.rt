@@ -1,4 +1,5 @@
-// Questions about the modules at some positions of a set: the first `n` of an array of positions.
+// Questions about the modules at some positions of a set: the first `n` of an array of positions, or those from one number up to
+// another.
 ghost use mathlib.Core.Path.{_≡_};
 ghost use mathlib.Core.Bool.{true, not, _&&_, _||_};
 ghost use mathlib.Core.Option.{some};
