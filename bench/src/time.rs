@@ -7,8 +7,8 @@ pub struct Time {
     pub median: f64,
 }
 
-/// A sample is one call, or so many that it takes two milliseconds: most of them find the caches as the one before left them.
-const SAMPLE: f64 = 2_000_000.0;
+/// A sample is one call, or so many that it takes 50 microseconds.
+const SAMPLE: f64 = 50_000.0;
 /// A call that takes longer is not repeated.
 const LONG: Duration = Duration::from_secs(5);
 
