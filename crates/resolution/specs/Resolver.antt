@@ -24,7 +24,7 @@ use Rattle.records.specs.declared.record.Kind.{Kind}
 use Rattle.records.specs.declared.record.Kind.the-variants as Kind
 use Rattle.resolution.specs.Lists.{Name, any, keep, first}
 use Rattle.resolution.specs.Owner.{least}
-use Rattle.resolution.specs.Row.{holds, countBelow}
+use Rattle.resolution.specs.Row.{holds, one, countBelow}
 use Rattle.resolution.specs.Resolve.{bodyStart}
 use Rattle.resolution.specs.declared.resolver.Halt.{Halt}
 use Rattle.resolution.specs.declared.resolver.Halt.the-variants as Halt
@@ -169,17 +169,20 @@ unfoldable pub queueIn : Inputs → Input → ℕ → List (List ℕ) → Line �
 queueIn w i at [] l = l
 queueIn w i at (r ∷ rs) l = queueIn w i (at + length r) rs (pickLine (isOf (kindFor i) r) (queued (wantRecord w i (bodyOf r) (at + 4)) l) l)
 
--- the array has a place for each position that may come: those that stand in it are different, and below count
+-- the array has a place for each position that may come: those that stand in it are different, and below count. Behind these
+-- places each position has its mark: 1 where it stands in the queue
 pub record Ready (count : ℕ) (order : List ℕ) (q : Queue) : Type 0 where
-  pub long : length order ≡ 256
+  pub long : length order ≡ 512
   pub few : count ≤ 256
   pub waits : q .head ≤ q .tail
   pub room : q .tail + countBelow (λ k. not (isOneOf k (take (q .tail) order))) count ≤ count
+  pub marked : (i : ℕ) → i < 256 → getD order (256 + i) 0 ≡ one (isOneOf i (take (q .tail) order))
 
 -- an array for a queue that is empty
 pub record Fresh (count : ℕ) (order : List ℕ) : Type 0 where
-  pub long : length order ≡ 256
+  pub long : length order ≡ 512
   pub few : count ≤ 256
+  pub unmarked : (i : ℕ) → i < 256 → getD order (256 + i) 0 ≡ 0
 
 -- a position that is wanted is below count
 unfoldable pub Within : ℕ → Wanted → Type 0

@@ -13,7 +13,7 @@ ghost use Rattle.records.specs.Record.{bodies};
 ghost use Rattle.records.specs.declared.record.Kind.the-variants as Kind;
 ghost use Rattle.resolution.specs.Lists.{any, keep};
 ghost use Rattle.resolution.specs.Owner.{least};
-ghost use Rattle.resolution.specs.Resolver.{namesOf, hasNamed, isOneOf, requiresName, isMetBefore, splitOf, splitAt};
+ghost use Rattle.resolution.specs.Resolver.{namesOf, hasNamed, requiresName, isMetBefore, splitOf, splitAt};
 ghost use Rattle.resolution.specs.Filter.{MarkedAll, Covers, leastOf, lesserOf, leastIn, asked, askedBefore, foundOf, positionIn, firstNamed, requiresIn, isRequired};
 use crate::filter::mark_names;
 use crate::resolver::Halt;
@@ -40,23 +40,6 @@ use records::set::entry;
 pub struct Least {
     pub found: bool,
     pub entry: usize,
-}
-
-// Whether i is one of the positions.
-pub fn is_one_of(order: &[usize], n: usize, i: usize) -> bool
-    ensures { λ r. ⌜ r ≡ isOneOf i (take n (now (order .entry))) ⌝ }
-{
-    let mut k: usize = 0;
-    while k < n {
-        if order.len() <= k {
-            return false;
-        }
-        if i == order[k] {
-            return true;
-        }
-        k += 1;
-    }
-    false
 }
 
 // The first of the positions whose module has a record of this kind with this name in front.

@@ -3,16 +3,15 @@ ghost use mathlib.Core.Path.{_≡_};
 ghost use mathlib.Core.Bool.{true, false, _&&_, not};
 ghost use Prim.Native.Nat.{suc, _-_, _≤_, _<_};
 ghost use lib.Dec.{eqb};
-ghost use lib.ListN.{length, getD, drop};
+ghost use lib.ListN.{length, getD, take, drop};
 ghost use Rattle.records.specs.Record.{records};
 ghost use Rattle.records.specs.Request.{requestOf, isPermitted};
-ghost use Rattle.resolution.specs.Resolver.{inputsOf, isMetBefore, want as wantOf, wantRecord, wantUnfound, kindFor, Within, lineAt, queued, queuedAt, queueIn, advancedAt, handleAt, isOpen, isDone, runAt, Ready, Moved};
+ghost use Rattle.resolution.specs.Resolver.{inputsOf, isMetBefore, isOneOf, want as wantOf, wantRecord, wantUnfound, kindFor, Within, lineAt, queued, queuedAt, queueIn, advancedAt, handleAt, isOpen, isDone, runAt, Ready, Moved};
 ghost use Rattle.resolution.specs.Known.{Limits, Met, Tables};
 ghost use Rattle.resolution.specs.Runs.{Running, Ran};
 use crate::modules::end_of;
 use crate::modules::find_split;
 use crate::modules::is_met_before;
-use crate::modules::is_one_of;
 use crate::row::Row;
 use crate::row::has;
 use records::bytes::head;
@@ -51,7 +50,8 @@ pub enum Wanted {
     Refuse(ModuleError),
 }
 
-// An array of positions goes with it: those before head are resolved, in order, and those from there to tail wait.
+// An array of 512 numbers goes with it. Of its first half the positions before head are resolved, in order, and those from there to
+// tail wait; entry 256 + i is 1 where position i is one of them, else 0.
 pub struct Queue {
     pub head: usize,
     pub tail: usize,
@@ -248,17 +248,27 @@ fn kind_for(input: Input) -> Kind
     }
 }
 
-// Position i comes to the end, unless it is there.
+// Whether position i is in the queue: its mark says so.
+pub fn is_queued(order: &[usize], q: Queue, count: usize, i: usize) -> bool
+    requires { ⌜ Ready count (now order) q ⌝ }
+    requires { ⌜ i < count ⌝ }
+    ensures { λ r. ⌜ r ≡ isOneOf i (take (q .tail) (now (order .entry))) ⌝ }
+{
+    order[256 + i] == 1
+}
+
+// Position i comes to the end and is marked, unless it is there.
 fn push(order: &mut [usize], q: Queue, count: usize, i: usize) -> Queue
     requires { ⌜ Ready count (now order) q ⌝ }
     requires { ⌜ i < count ⌝ }
     ensures { λ r. ⌜ Moved count (now (order .exit)) r (queuedAt i (lineAt (now (order .entry)) q)) ⌝ }
 {
-    let at = q.tail;
-    if is_one_of(order, at, i) {
+    if is_queued(order, q, count, i) {
         return q;
     }
+    let at = q.tail;
     order[at] = i;
+    order[256 + i] = 1;
     let head = q.head;
     let halt = q.halt;
     Queue {

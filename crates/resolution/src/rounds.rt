@@ -17,13 +17,13 @@ ghost use Rattle.resolution.specs.declared.resolver.Wanted.the-variants 
 use crate::met::order_needed;
 use crate::met::order_roots;
 use crate::modules::end_of;
-use crate::modules::is_one_of;
 use crate::modules::is_provider;
 use crate::resolver::Phase;
 use crate::resolver::Queue;
 use crate::resolver::Wanted;
 use crate::resolver::enqueue;
 use crate::resolver::is_done;
+use crate::resolver::is_queued;
 use crate::resolver::run;
 use crate::row::Row;
 use crate::row::has;
@@ -182,7 +182,7 @@ fn is_due(
     requires { ⌜ i < phase .count ⌝ }
     ensures { λ r. ⌜ offeredAt (inputsOf (now (set .entry)) [] (now (starts .entry)) [] phase) (take to (now (order .entry))) i (lineAt (now (order .entry)) q) ≡ pickLine r (queued (Wanted.Add i) (lineAt (now (order .entry)) q)) (lineAt (now (order .entry)) q) ⌝ }
 {
-    if is_one_of(order, q.tail, i) {
+    if is_queued(order, q, phase.count, i) {
         return false;
     }
     is_bound(set, starts, phase, order, from, to, table, services, i)

@@ -44,34 +44,6 @@ module _ (ps : List ℕ) (n k : ℕ) where
   pub rest-none : n ≤ k → drop k (take n ps) ≡ []
   rest-none l = drop-of-length-le (take n ps) {i = k} (rw length-take (omega arith))
 
--- ---- one of the positions
-
--- it is none of those before k
-pub record OneAt (i : ℕ) (ps : List ℕ) (n k : ℕ) : Type 0 where
-  pub left : isOneOf i (take n ps) ≡ isOneOf i (drop k (take n ps))
-
-pub one-start : (i : ℕ) (ps : List ℕ) (n : ℕ) → OneAt i ps n 0
-one-start i ps n = record { left = refl }
-
-module _ (i : ℕ) (ps : List ℕ) (n k : ℕ) (h : OneAt i ps n k) where
-  pub one-here : k < n → k < length ps → i ≡ getD ps k 0 → true ≡ isOneOf i (take n ps)
-  unfolding isOneOf any
-  one-here l m e = sym (h .left ∙ rw (rest-more ps n k l m, eq-eqb i (getD ps k 0) e))
-
-  pub one-more : k < n → k < length ps → (i ≡ getD ps k 0 → ⊥) → OneAt i ps n (k + 1)
-  unfolding isOneOf any
-  one-more l m e = record { left = h .left ∙ rw (rest-more ps n k l m, ne-eqb i (getD ps k 0) e) }
-
-  pub one-past : length ps ≤ k → false ≡ isOneOf i (take n ps)
-  unfolding isOneOf any
-  one-past l = sym (h .left ∙ rw (rest-past ps n k l))
-
-  pub one-none : n ≤ k → false ≡ isOneOf i (take n ps)
-  unfolding isOneOf any
-  one-none l = sym (h .left ∙ rw (rest-none ps n k l))
-
-pub ruleset one-laws = (one-start, one-here, one-more, one-past, one-none)
-
 -- ---- the first module with a name
 
 -- none of those before k has it

@@ -136,7 +136,7 @@ module _ (count : ℕ) (set starts order : List ℕ) (q : Queue) (h : Ready coun
   source-short s n k e = rw e (omega (arith, take-few n set, k))
 
   pub next-ready : Ready count order (record { head = q .head + 1; tail = q .tail; halt = q .halt })
-  next-ready = record { long = h .long; few = h .few; waits = omega (arith, l); room = h .room }
+  next-ready = record { long = h .long; few = h .few; waits = omega (arith, l); room = h .room; marked = h .marked }
 
   -- the line that the records of its block make
   pub advance-moved : (request old : List ℕ) (phase : Phase) (from to : ℕ) (source order₂ : List ℕ) (r : Queue)
@@ -225,7 +225,7 @@ module _ (count : ℕ) (set starts order packages : List ℕ) (q : Queue) (h : R
     refused-ran e k = record {
       line = sym (handled-is ∙ k);
       running = record {
-        ready = record { long = h .ready .long; few = h .ready .few; waits = h .ready .waits; room = h .ready .room };
+        ready = record { long = h .ready .long; few = h .ready .few; waits = h .ready .waits; room = h .ready .room; marked = h .ready .marked };
         short = h .short;
         wide = wide ∙ h .wide;
         covers = record { each = λ i p n t. m .kept n (h .covers .each i p n t) };

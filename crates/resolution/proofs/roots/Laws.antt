@@ -1,10 +1,10 @@
 -- The queue of the roots, and the whole.
-use Prim.Native.Nat.{ℕ, suc, _-_, _≤_}
+use Prim.Native.Nat.{ℕ, suc, _+_, _-_, _≤_}
 use mathlib.Core.Path.{_≡_, refl, sym, _∙_, ap}
 use mathlib.Core.Bool.{Bool, true, false, not}
 use mathlib.Core.List.{List, [], map}
 use native.Mathlib.Omega.{arith}
-use lib.ListN.{length, take, drop, replicate, length-replicate}
+use lib.ListN.{length, take, drop, replicate, length-replicate, getD-replicate}
 use lib.Seq.{length-take-le}
 use Rattle.records.specs.Name.{javaBase, memName, nameOf}
 use Rattle.records.specs.Record.{records, bodies}
@@ -13,6 +13,8 @@ use Rattle.records.specs.declared.error.Input.the-variants as Input
 use Rattle.records.specs.declared.error.ModuleError.the-variants.{JavaBaseNotFound}
 use Rattle.records.specs.declared.record.Kind.the-variants as Kind
 use Rattle.records.proofs.Logic.{clash}
+use Rattle.resolution.specs.Lists.{any}
+use Rattle.resolution.specs.Row.{one}
 use Rattle.resolution.specs.Resolver.{Inputs, inputsOf, want, Line, lineAt, isOneOf, pickLine, queued, queueIn, runAt, roundsAt, frontAt, rootsAt, firstAt, thenRounds, startOn, resolveAt, Ready, Fresh, Moved}
 use Rattle.resolution.specs.Filter.{asked}
 use Rattle.resolution.specs.Lookup.{Lookup}
@@ -36,11 +38,13 @@ module _ (set request starts : List ℕ) (phase : Phase) where
 
   module _ (order : List ℕ) (h : Fresh (phase .count) order) where
     pub front-ready : Ready (phase .count) order (record { head = 0; tail = 0; halt = Halt.Open })
+    unfolding one isOneOf any
     front-ready = record {
       long = h .long;
       few = h .few;
       waits = omega arith;
       room = omega (arith, count-le (λ k. not (isOneOf k (take 0 order))) (phase .count));
+      marked = h .unmarked;
     }
 
     module _ (r : Bool) (er : r ≡ memName javaBase (map nameOf (bodies Kind.Root request))) where
@@ -110,8 +114,8 @@ pub ruleset first-laws = (first-running, first-ran)
 -- ---- the whole
 
 module _ (set request starts : List ℕ) (phase : Phase) (index names : List ℕ) (h : Tables set request starts starts phase index names names) where
-  pub order-fresh : Fresh (phase .count) (replicate 256 0)
-  order-fresh = record { long = length-replicate {A = ℕ} 256 0; few = h .lookup .few }
+  pub order-fresh : Fresh (phase .count) (replicate 512 0)
+  order-fresh = record { long = length-replicate {A = ℕ} 512 0; few = h .lookup .few; unmarked = λ i l. getD-replicate 512 (256 + i) 0 0 (omega (arith, l)) }
 
   pub order-later : length request ≤ 65535 → (old : List ℕ) (before : ℕ) → before ≤ length old
       → Later set request starts old (record { count = phase .count; permitted = phase .permitted; in_round = true; before = before; limited = phase .limited; known = false }) index

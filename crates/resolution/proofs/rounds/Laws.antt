@@ -224,7 +224,7 @@ module _ (set request starts old : List ℕ) (phase : Phase) where
   -- so many rounds are left at most
   pub record RoundsAt (index names needed order₀ packages₀ table₀ : List ℕ) (start : Line) (order packages table : List ℕ) (bound : ℕ) (q : Queue) : Type 0 where
     pub tables : Tables set request starts old phase index names needed
-    pub order-long : length order₀ ≡ 256
+    pub order-long : length order₀ ≡ 512
     pub packages-long : length packages₀ ≡ 1024
     pub table-long : length table ≡ length table₀
     pub between : Between phase set starts order packages bound q

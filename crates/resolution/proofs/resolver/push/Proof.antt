@@ -14,4 +14,7 @@ push-spec =
     (λ c. search (push-laws, needs))
     (λ c. search (push-laws, needs))
     (λ c. search (push-laws, needs))
+    (λ c. search (push-laws, needs))
+    (λ c. search (push-laws, needs))
+    (λ c. search (push-laws, needs))
     (λ c. search (push-laws, needs)))
