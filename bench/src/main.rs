@@ -2,6 +2,8 @@
 //!
 //! CLASSES is tests/classes, FOLDER has the module-info.class of each module of a JDK, JAVA is what Read.java prints.
 //! BENCH_SECONDS says how long a row of the tables may take (1).
+#[path = "../../rust/tests/alike/mod.rs"]
+mod alike;
 mod inputs;
 mod ratios;
 mod slow;

@@ -1,4 +1,5 @@
 //! The slowest inputs known, near 65,535 bytes: what each loop of the library meets most often.
+use crate::alike::alike;
 use crate::inputs::LIMIT;
 use crate::slow_class;
 use crate::time::{self, times};
@@ -42,28 +43,6 @@ fn limits(front: Vec<u8>, of: &str, limit: usize) -> Vec<u8> {
 /// java.base and modules of these names.
 fn modules(names: impl Iterator<Item = String>) -> Vec<u8> {
     names.fold(module("java.base"), |set, n| [set, module(&n)].concat())
-}
-
-/// What `records::index::hash` makes of a name of at most 255 bytes.
-fn hash(n: &str) -> u64 {
-    let sums = |(a, b, c): (u64, u64, u64), x: u8| {
-        let a = a + u64::from(x);
-        (a, b + a, c + b + a)
-    };
-    let (a, b, c) = n.bytes().fold((0, 0, 0), sums);
-    (a + b * 509 + c * 65_521) * 40_503
-}
-
-/// Names of twelve bytes with one hash: of four bytes, +1, -3, +3 and -1 change none of its three sums.
-fn alike(i: usize) -> String {
-    let four = |d: usize| {
-        let t = d as i32 - 15;
-        [80 + t, 80 - 3 * t, 80 + 3 * t, 80 - t].map(|x| x as u8)
-    };
-    assert!(i < 31 * 31 * 31, "{i} has no such name");
-    let n = String::from_utf8([four(i / 961), four(i / 31 % 31), four(i % 31)].concat()).unwrap();
-    assert_eq!(hash(&n), hash("PPPPPPPPPPPP"));
-    n
 }
 
 struct Table {

@@ -1,5 +1,8 @@
 //! Sets that take the library's other paths: more services in one round than its table holds, and names with one hash, which pass
 //! its filter of packages and share a chain of its index.
+mod alike;
+
+use alike::alike;
 use saqhovune::form::*;
 use saqhovune::{Refusal, resolve};
 
@@ -7,29 +10,6 @@ use saqhovune::{Refusal, resolve};
 fn short(i: usize) -> String {
     assert!(i < 94 * 94);
     String::from_utf8(vec![b'!' + (i / 94) as u8, b'!' + (i % 94) as u8]).unwrap()
-}
-
-/// Names of eight bytes with one hash: of four bytes, +1, -3, +3 and -1 change none of its three sums.
-fn alike(i: usize) -> String {
-    let four = |d: usize| {
-        let t = d as i32 - 15;
-        [80 + t, 80 - 3 * t, 80 + 3 * t, 80 - t].map(|x| x as u8)
-    };
-    assert!(i < 31 * 31);
-    let name = String::from_utf8([four(i / 31), four(i % 31)].concat()).unwrap();
-    assert_eq!(hash(&name), hash("PPPPPPPP"));
-    name
-}
-
-/// What `records::index::hash` makes of a name.
-fn hash(name: &str) -> u64 {
-    let (mut a, mut b, mut c) = (0, 0, 0);
-    for x in name.bytes() {
-        a += u64::from(x);
-        b += a;
-        c += b;
-    }
-    (a + b * 509 + c * 65_521) * 40_503
 }
 
 /// How many modules start.
