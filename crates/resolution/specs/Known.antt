@@ -9,11 +9,10 @@ use Rattle.records.specs.Name.{javaBase, memName}
 use Rattle.records.specs.Order.{nameIn, isOrdered}
 use Rattle.records.specs.Request.{requestOf, isPermitted}
 use Rattle.resolution.specs.Lists.{Name}
-use Rattle.resolution.specs.Resolver.{inputsOf, requiresName, isMetBefore}
-use Rattle.resolution.specs.Filter.{asked, requiresIn, isRequired}
+use Rattle.resolution.specs.Resolver.{inputsOf, isMetBefore}
 use Rattle.resolution.specs.Lookup.{Lookup}
-use Rattle.resolution.specs.Runs.{toldIn}
-use Rattle.resolution.specs.declared.limits.Listed.{Listed}
+use Rattle.resolution.specs.Table.{toldIn}
+use Rattle.resolution.specs.declared.table.Listed.{Listed}
 use Rattle.resolution.specs.declared.resolver.Phase.{Phase}
 
 -- a request that is not limited permits every name
@@ -31,25 +30,6 @@ pub record RootsTold (request table : List ℕ) (r : ℕ) : Type 0 where
   pub room : r ≤ length table
   pub sorted : isOrdered (toldIn request table r) ≡ true
   pub told : (x : Name) → memName x (toldIn request table r) ≡ memName x (requestOf request .roots)
-
--- the name of a requirement is put into the table, unless it is static
-pub record NeededPut (set body before : List ℕ) (count : ℕ) (after : List ℕ) (r : ℕ) : Type 0 where
-  pub room : r ≤ length after
-  pub sorted : isOrdered (toldIn set after r) ≡ true
-  pub told : (x : Name) → memName x (toldIn set after r) ≡ (memName x (toldIn set before count) || requiresName x body)
-
--- those of these records are
-pub record NeededAdded (set part before : List ℕ) (s : Listed) (after : List ℕ) (r : Listed) : Type 0 where
-  pub room : r .count ≤ length after
-  pub sorted : isOrdered (toldIn set after (r .count)) ≡ true
-  pub was : r .known ≡ true → s .known ≡ true
-  pub told : r .known ≡ true → (x : Name) → memName x (toldIn set after (r .count)) ≡ (memName x (toldIn set before (s .count)) || requiresIn part x)
-
--- the table tells names in order: where they are known, those that the first n modules of the order require
-pub record NeededTold (set starts order : List ℕ) (n : ℕ) (table : List ℕ) (r : Listed) : Type 0 where
-  pub room : r .count ≤ length table
-  pub sorted : isOrdered (toldIn set table (r .count)) ≡ true
-  pub told : r .known ≡ true → (x : Name) → memName x (toldIn set table (r .count)) ≡ isRequired (asked set starts) (take n order) x
 
 -- before the rounds the table `names` tells which names the request permits
 pub record Limits (request : List ℕ) (phase : Phase) (names : List ℕ) : Type 0 where

@@ -20,6 +20,7 @@ pub mod Visit
 pub mod Resolver
 pub mod Filter
 pub mod Lookup
+pub mod Table
 pub mod Known
 pub mod Runs
 pub mod Readability

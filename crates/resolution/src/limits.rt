@@ -1,20 +1,16 @@
-// The names of the request's LM in order, so that one is looked for by halves.
+// The names of the request's LM, and its roots, each in order, so that one is looked for by halves.
 ghost use Prim.Native.Nat.{_≤_};
 ghost use lib.ListN.{length};
-ghost use Rattle.resolution.specs.Known.{Limited, LimitTold};
+ghost use Rattle.resolution.specs.Known.{Limited, LimitTold, RootsTold};
+use crate::table::Listed;
 use records::bytes::be16;
 use records::bytes::part;
 use records::name::is_list;
 use records::order::insert_list;
+use records::order::insert_names;
 use records::record::Cursor;
 use records::record::Kind;
 use records::record::Next;
-
-// How many names a table tells, and whether they are all that were to be put there.
-pub struct Listed {
-    pub count: usize,
-    pub known: bool,
-}
 
 // Whether the request has an LM.
 pub fn is_limited(request: &[u8]) -> bool
@@ -61,4 +57,13 @@ pub fn order_limits(request: &[u8], table: &mut [usize]) -> Listed
         }
         Next::Nothing => none,
     }
+}
+
+// Puts the roots of the request in order into the table; returns their number.
+pub fn order_roots(request: &[u8], table: &mut [usize]) -> usize
+    requires { ⌜ length (now request) ≤ 65535 ⌝ }
+    requires { ⌜ 16384 ≤ length (now table) ⌝ }
+    ensures { λ r. ⌜ RootsTold (now (request .entry)) (now (table .exit)) r ⌝ }
+{
+    insert_names(request, 0, request.len(), Kind::Root, table, 0)
 }

@@ -1,6 +1,6 @@
 // The rounds: the providers of services that resolved modules use, and what they lead to.
 ghost use mathlib.Core.Path.{_≡_};
-ghost use mathlib.Core.Bool.{true};
+ghost use mathlib.Core.Bool.{true, false};
 ghost use mathlib.Core.List.{[], map};
 ghost use Prim.Native.Nat.{suc, _≤_, _<_};
 ghost use lib.ListN.{length, take, drop};
@@ -12,11 +12,10 @@ ghost use Rattle.resolution.specs.Lists.{any};
 ghost use Rattle.resolution.specs.Resolver.{inputsOf, namesOf, hasNamed, lineAt, pickLine, queued, isProviderAt, offeredAt, provideAt, isDone, roundAt, roundsAt, Moved};
 ghost use Rattle.resolution.specs.Filter.{asked};
 ghost use Rattle.resolution.specs.Known.{Tables, Later};
-ghost use Rattle.resolution.specs.Runs.{Running, Added, Told, Unbound, Binding, Between, Rounded};
+ghost use Rattle.resolution.specs.Runs.{Running, Unbound, Binding, Between, Rounded};
+ghost use Rattle.resolution.specs.Table.{NamesTold};
 ghost use Rattle.resolution.specs.declared.resolver.Wanted.the-variants as Wanted;
-use crate::met::order_needed;
-use crate::met::order_roots;
-use crate::modules::end_of;
+use crate::limits::order_roots;
 use crate::modules::is_provider;
 use crate::resolver::Phase;
 use crate::resolver::Queue;
@@ -27,76 +26,15 @@ use crate::resolver::is_queued;
 use crate::resolver::run;
 use crate::row::Row;
 use crate::row::has;
-use records::bytes::head;
+use crate::table::Listed;
+use crate::table::order_names;
 use records::bytes::part;
 use records::name::name_of;
 use records::order::contains;
-use records::order::insert;
 use records::record::Cursor;
 use records::record::Kind;
 use records::record::Next;
 use records::set::block;
-use records::set::entry;
-
-// How many services a table tells, and whether they are all that were to be put there.
-pub struct Services {
-    pub count: usize,
-    pub all: bool,
-}
-
-// Puts the services that the records of the set from `from` up to `to` use in order into the table, as far as it has room.
-fn add_uses(set: &[u8], from: usize, to: usize, table: &mut [usize], services: Services) -> Services
-    requires { ⌜ length (now set) ≤ 65535 ⌝ }
-    requires { ⌜ services .count ≤ length (now table) ⌝ }
-    requires { ⌜ isOrdered (map (nameIn (now set)) (take (services .count) (now table))) ≡ true ⌝ }
-    ensures { λ r. ⌜ Added (now (set .entry)) (drop from (take to (now (set .entry)))) (now (table .entry)) services (now (table .exit)) r ⌝ }
-{
-    let source = head(set, to);
-    let mut c = Cursor { at: from };
-    let mut count = services.count;
-    loop {
-        match c.next(source, Kind::Uses) {
-            Next::Body { start, len, next } => {
-                if table.len() <= count {
-                    return Services { count, all: false };
-                }
-                let name = name_of(part(source, start, len));
-                count = insert(set, table, count, (start + 1) * 65536 + name.len());
-                c = next;
-            }
-            Next::Nothing => {
-                let all = services.all;
-                return Services { count, all };
-            }
-        }
-    }
-}
-
-// Puts the services that the modules from number `from` to `to` of the order use in order into the table, as far as it has room.
-fn order_uses(
-    set: &[u8],
-    starts: &[usize],
-    order: &[usize],
-    from: usize,
-    to: usize,
-    table: &mut [usize],
-) -> Services
-    requires { ⌜ length (now set) ≤ 65535 ⌝ }
-    requires { ⌜ to ≤ length (now order) ⌝ }
-    ensures { λ r. ⌜ Told (now (set .entry)) (now (starts .entry)) (now (order .entry)) from to (now (table .exit)) r ⌝ }
-{
-    let mut services = Services {
-        count: 0,
-        all: true,
-    };
-    let mut k = from;
-    while k < to {
-        let i = order[k];
-        services = add_uses(set, entry(starts, i), end_of(starts, i), table, services);
-        k += 1;
-    }
-    services
-}
 
 // Whether this block provides a service of the table.
 fn provides_one(set: &[u8], table: &[usize], count: usize, b: &[u8]) -> bool
@@ -129,13 +67,13 @@ fn provides_new(
     from: usize,
     to: usize,
     table: &[usize],
-    services: Services,
+    services: Listed,
     i: usize,
 ) -> bool
-    requires { ⌜ Told (now set) (now starts) (now order) from to (now table) services ⌝ }
+    requires { ⌜ NamesTold false (now set) (now starts) (now order) from to (now table) services ⌝ }
     ensures { λ r. ⌜ r ≡ any (hasNamed (asked (now (set .entry)) (now (starts .entry))) Kind.Uses (drop from (take to (now (order .entry))))) (namesOf (asked (now (set .entry)) (now (starts .entry))) Kind.Provides i) ⌝ }
 {
-    if services.all {
+    if services.known {
         return provides_one(set, table, services.count, block(set, starts, i));
     }
     is_provider(set, starts, order, from, to, i)
@@ -150,10 +88,10 @@ fn is_bound(
     from: usize,
     to: usize,
     table: &[usize],
-    services: Services,
+    services: Listed,
     i: usize,
 ) -> bool
-    requires { ⌜ Told (now set) (now starts) (now order) from to (now table) services ⌝ }
+    requires { ⌜ NamesTold false (now set) (now starts) (now order) from to (now table) services ⌝ }
     ensures { λ r. ⌜ r ≡ isProviderAt (inputsOf (now (set .entry)) [] (now (starts .entry)) [] phase) (drop from (take to (now (order .entry)))) i ⌝ }
 {
     let words = phase.permitted;
@@ -174,7 +112,7 @@ fn is_due(
     from: usize,
     to: usize,
     table: &[usize],
-    services: Services,
+    services: Listed,
     q: Queue,
     i: usize,
 ) -> bool
@@ -197,7 +135,7 @@ fn offer(
     from: usize,
     to: usize,
     table: &[usize],
-    services: Services,
+    services: Listed,
     q: Queue,
     i: usize,
 ) -> Queue
@@ -219,7 +157,7 @@ fn provide(
     order: &mut [usize],
     from: usize,
     table: &[usize],
-    services: Services,
+    services: Listed,
     q: Queue,
 ) -> Queue
     requires { ⌜ Binding phase (now set) (now starts) (now order) from (q .head) (now table) services q ⌝ }
@@ -259,7 +197,7 @@ fn bind(
     requires { ⌜ Unbound phase (now set) (now starts) (now order) bound q ⌝ }
     ensures { λ r. ⌜ Moved (phase .count) (now (order .exit)) r (provideAt (inputsOf (now (set .entry)) [] (now (starts .entry)) [] phase) (lineAt (now (order .entry)) q)) ⌝ }
 {
-    let services = order_uses(set, starts, order, bound, q.head, table);
+    let services = order_names(set, starts, order, bound, q.head, false, table);
     provide(set, starts, phase, order, bound, table, services, q)
 }
 
@@ -401,7 +339,7 @@ fn told_rounds(
     ensures { λ r. ⌜ Moved (phase .count) (now (order .exit)) r (roundsAt (inputsOf (now (set .entry)) (now (request .entry)) (now (starts .entry)) (now (old .entry)) phase) (suc (phase .count)) (lineAt (now (order .entry)) q)) ⌝ }
 {
     let n = order_roots(request, roots);
-    let listed = order_needed(set, starts, old, phase.before, needed);
+    let listed = order_names(set, starts, old, 0, phase.before, true, needed);
     let permitted = phase.permitted;
     let next = Phase {
         count: phase.count,

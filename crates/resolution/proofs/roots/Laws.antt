@@ -20,7 +20,7 @@ use Rattle.resolution.specs.Filter.{asked}
 use Rattle.resolution.specs.Lookup.{Lookup}
 use Rattle.resolution.specs.Known.{Limited, LimitTold, Tables, Later}
 use Rattle.resolution.specs.Runs.{Running, Ran}
-use Rattle.resolution.specs.declared.limits.Listed.{Listed}
+use Rattle.resolution.specs.declared.table.Listed.{Listed}
 use Rattle.resolution.specs.declared.resolver.Halt.{Halt}
 use Rattle.resolution.specs.declared.resolver.Halt.the-variants as Halt
 use Rattle.resolution.specs.declared.resolver.Phase.{Phase}

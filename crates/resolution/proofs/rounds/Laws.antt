@@ -14,14 +14,15 @@ use Rattle.records.proofs.Logic.{clash}
 use Rattle.resolution.specs.Row.{one}
 use Rattle.resolution.specs.Resolver.{Inputs, inputsOf, startOf, blockOf, Line, lineAt, isOneOf, pickLine, Ready, Moved, splitAt, advancedAt, handledAt, handleAt, isOpen, goesOn, runAt, isProviderAt, provideAt, isDone, roundAt, roundsAt, isMetBefore}
 use Rattle.resolution.specs.Filter.{requiresIn, isRequired}
-use Rattle.resolution.specs.Known.{RootsTold, NeededTold, Tables, Later}
-use Rattle.resolution.specs.Runs.{Running, Ran, Told, Unbound, Binding, Between, Rounded}
-use Rattle.resolution.specs.declared.limits.Listed.{Listed}
+use Rattle.resolution.specs.Known.{RootsTold, Tables, Later}
+use Rattle.resolution.specs.Table.{NamesTold}
+use Rattle.resolution.specs.Runs.{Running, Ran, Unbound, Binding, Between, Rounded}
+use Rattle.resolution.specs.declared.table.Listed.{Listed}
 use Rattle.resolution.specs.declared.resolver.Halt.{Halt}
 use Rattle.resolution.specs.declared.resolver.Halt.the-variants as Halt
 use Rattle.resolution.specs.declared.resolver.Phase.{Phase}
 use Rattle.resolution.specs.declared.resolver.Queue.{Queue}
-use Rattle.resolution.specs.declared.rounds.Services.{Services}
+use Rattle.resolution.proofs.table.Laws.{tells-required}
 use Rattle.resolution.proofs.Lists.{true≠false}
 use Rattle.resolution.proofs.resolver.Turns.{append-nil, Grown, Longer, grown-same, grown-then, longer-records, front-same, tail-grows, tail-few, tail-long}
 use Rattle.resolution.proofs.resolver.Runs.{not-back, run-ended}
@@ -35,7 +36,7 @@ module _ (phase : Phase) (set starts order : List ℕ) (bound : ℕ) (q : Queue)
   pub bind-long : q .head ≤ length order
   bind-long = omega (arith, h .ready .waits, tail-long (phase .count) order q (h .ready))
 
-  pub bind-told : (table : List ℕ) (s : Services) → Told set starts order bound (q .head) table s → Binding phase set starts order bound (q .head) table s q
+  pub bind-told : (table : List ℕ) (s : Listed) → NamesTold false set starts order bound (q .head) table s → Binding phase set starts order bound (q .head) table s q
   bind-told table s t = record { ready = h .ready; told = t; bound-is = h .bound-is; behind = h .behind }
 
 pub ruleset bind-laws = (bind-long, bind-told)
@@ -368,7 +369,7 @@ module _ (set request starts old : List ℕ) (phase : Phase) (index : List ℕ) 
       unknown = h .unknown
 
   -- with one
-  pub later-told : (roots needed : List ℕ) (n : ℕ) (r : Listed) → RootsTold request roots n → NeededTold set starts old (phase .before) needed r
+  pub later-told : (roots needed : List ℕ) (n : ℕ) (r : Listed) → RootsTold request roots n → NamesTold true set starts old 0 (phase .before) needed r
       → Tables set request starts old (record { count = phase .count; permitted = phase .permitted; in_round = phase .in_round; before = phase .before; limited = true; known = r .known }) index (take n roots) (take (r .count) needed)
   unfolding isMetBefore inputsOf isRequired requiresIn blockOf
   later-told roots needed n r a b =
@@ -376,7 +377,7 @@ module _ (set request starts old : List ℕ) (phase : Phase) (index : List ℕ) 
       record {
         lookup = h .lookup;
         limits = record { free = λ e. clash (cc); sorted = λ e k. clash (cc); permits = λ e k. clash (cc) };
-        met = record { sorted = λ e k. a .sorted; sorted-needed = λ e k. b .sorted; met = λ e k x. rw (a .told x, b .told e x) };
+        met = record { sorted = λ e k. a .sorted; sorted-needed = λ e k. b .sorted; met = λ e k x. rw (a .told x, b .told e x, tells-required set starts (take (phase .before) old) x) };
       }
 
 pub roots-room : (request table : List ℕ) (n : ℕ) → RootsTold request table n → n ≤ length table
@@ -385,10 +386,10 @@ roots-room request table n h = h .room
 pub roots-part : (request table : List ℕ) (n : ℕ) → RootsTold request table n → n ≡ length (take n table)
 roots-part request table n h = sym (length-take-le n table (h .room))
 
-pub needed-room : (set starts order : List ℕ) (n : ℕ) (table : List ℕ) (r : Listed) → NeededTold set starts order n table r → r .count ≤ length table
+pub needed-room : (set starts order : List ℕ) (n : ℕ) (table : List ℕ) (r : Listed) → NamesTold true set starts order 0 n table r → r .count ≤ length table
 needed-room set starts order n table r h = h .room
 
-pub needed-part : (set starts order : List ℕ) (n : ℕ) (table : List ℕ) (r : Listed) → NeededTold set starts order n table r → r .count ≡ length (take (r .count) table)
+pub needed-part : (set starts order : List ℕ) (n : ℕ) (table : List ℕ) (r : Listed) → NamesTold true set starts order 0 n table r → r .count ≡ length (take (r .count) table)
 needed-part set starts order n table r h = sym (length-take-le (r .count) table (h .room))
 
 pub roots-wide : 16384 ≤ length (replicate {A = ℕ} 16384 0)

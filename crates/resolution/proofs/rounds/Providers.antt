@@ -19,17 +19,19 @@ use Rattle.resolution.specs.Lists.{Name, any}
 use Rattle.resolution.specs.Row.{holds}
 use Rattle.resolution.specs.Resolver.{Inputs, inputsOf, blockOf, namesOf, hasNamed, Line, lineAt, isOneOf, pickLine, queuedAt, queuedOn, queued, isProviderAt, offeredAt, provideFrom, provideAt, isDone, Within, Ready, Moved}
 use Rattle.resolution.specs.Filter.{asked}
-use Rattle.resolution.specs.Runs.{Told, Binding}
+use Rattle.resolution.specs.Runs.{Binding}
+use Rattle.resolution.specs.Table.{tellsAt, NamesTold}
 use Rattle.resolution.specs.declared.resolver.Halt.{Halt}
 use Rattle.resolution.specs.declared.resolver.Halt.the-variants as Halt
 use Rattle.resolution.specs.declared.resolver.Phase.{Phase}
 use Rattle.resolution.specs.declared.resolver.Queue.{Queue}
 use Rattle.resolution.specs.declared.resolver.Wanted.the-variants.{Add}
-use Rattle.resolution.specs.declared.rounds.Services.{Services}
+use Rattle.resolution.specs.declared.table.Listed.{Listed}
 use Rattle.resolution.proofs.Lists.{by, or-l, or-r, true≠false}
 use Rattle.resolution.proofs.ResolverQueue.{any-append}
 use Rattle.resolution.proofs.ResolverRun.{any-same}
 use Rattle.resolution.proofs.modules.Asked.{provider-asked}
+use Rattle.resolution.proofs.table.Laws.{tells-used}
 use Rattle.resolution.proofs.resolver.Turns.{Grown, Longer, grown-then, longer-same, longer-then, longer-queued, front-same}
 
 -- ---- tests of lists
@@ -89,13 +91,13 @@ provider-none w i = ap (λ (b : Bool). holds (w .permitted) i && b) (go (namesOf
 -- ---- one module
 
 -- the table tells all services that are used
-pub new-told : (set starts order : List ℕ) (from to : ℕ) (table : List ℕ) (s : Services) → Told set starts order from to table s → s .all ≡ true
+pub new-told : (set starts order : List ℕ) (from to : ℕ) (table : List ℕ) (s : Listed) → NamesTold false set starts order from to table s → s .known ≡ true
     → (i : ℕ) (x : List ℕ) (b : Bool) → x ≡ blockAt set starts i
     → b ≡ any (λ n. memName n (map (nameIn set) (take (s .count) table))) (map nameOf (bodies Kind.Provides x))
     → b ≡ any (hasNamed (asked set starts) Kind.Uses (drop from (take to order))) (namesOf (asked set starts) Kind.Provides i)
 unfolding namesOf blockOf
 new-told set starts order from to table s h a i x b ex eb =
-    eb ∙ any-same (λ (n : Name). memName n (map (nameIn set) (take (s .count) table))) (hasNamed (asked set starts) Kind.Uses (drop from (take to order))) (map nameOf (bodies Kind.Provides x)) (h .told a)
+    eb ∙ any-same (λ (n : Name). memName n (map (nameIn set) (take (s .count) table))) (hasNamed (asked set starts) Kind.Uses (drop from (take to order))) (map nameOf (bodies Kind.Provides x)) (λ n. h .told a n ∙ tells-used set starts (drop from (take to order)) n)
     ∙ ap (λ (y : List ℕ). any (hasNamed (asked set starts) Kind.Uses (drop from (take to order))) (map nameOf (bodies Kind.Provides y))) ex
 
 module _ (set starts ps : List ℕ) (phase : Phase) (i : ℕ) (r : Bool) (er : r ≡ holds (phase .permitted) i) where
@@ -160,7 +162,7 @@ module _ (set starts order : List ℕ) (phase : Phase) (to i : ℕ) (q : Queue) 
     unfolding offeredAt
     due-there e = pick-same (isProviderAt (inputsOf set [] starts [] phase) (take to order) i) (lineAt order q) (queued (Add i) (lineAt order q)) (there i (lineAt order q) (unfold lineAt in sym er ∙ e))
 
-    pub due-is : (from : ℕ) (table : List ℕ) (s : Services) → Binding phase set starts order from to table s q → (b : Bool) → b ≡ isProviderAt (inputsOf set [] starts [] phase) (drop from (take to order)) i
+    pub due-is : (from : ℕ) (table : List ℕ) (s : Listed) → Binding phase set starts order from to table s q → (b : Bool) → b ≡ isProviderAt (inputsOf set [] starts [] phase) (drop from (take to order)) i
         → r ≡ false → i < phase .count
         → offeredAt (inputsOf set [] starts [] phase) (take to order) i (lineAt order q) ≡ pickLine b (queued (Add i) (lineAt order q)) (lineAt order q)
     unfolding offeredAt
@@ -254,7 +256,7 @@ provide-same set request starts old phase l =
     (phase .count) 0 l
 
 -- the modules below i are done; n modules were resolved before the round
-module _ (set starts : List ℕ) (phase : Phase) (from : ℕ) (table : List ℕ) (s : Services) where
+module _ (set starts : List ℕ) (phase : Phase) (from : ℕ) (table : List ℕ) (s : Listed) where
   abbrev w : Inputs
   w = inputsOf set [] starts [] phase
 
@@ -290,7 +292,7 @@ module _ (set starts : List ℕ) (phase : Phase) (from : ℕ) (table : List ℕ)
       told = record {
         room = h .before .told .room;
         sorted = h .before .told .sorted;
-        told = λ a x. h .before .told .told a x ∙ ap (λ (ps : List ℕ). hasNamed (asked set starts) Kind.Uses (drop from ps) x) (sym same-front);
+        told = λ a x. h .before .told .told a x ∙ ap (λ (ps : List ℕ). tellsAt false set starts (drop from ps) x) (sym same-front);
       };
       bound-is = record {
         each = λ j l e.

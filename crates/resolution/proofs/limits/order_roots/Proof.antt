@@ -1,7 +1,7 @@
-use Rattle.resolution.proofs.met.Laws.{roots-laws}
+use Rattle.resolution.proofs.limits.Roots.{roots-laws}
 use borrow.Author.Needs.{needs}
-use Rattle.resolution.proofs.met.order_roots.Statement.{statement}
-use Rattle.resolution.proofs.met.order_roots.Tie as tie
+use Rattle.resolution.proofs.limits.order_roots.Statement.{statement}
+use Rattle.resolution.proofs.limits.order_roots.Tie as tie
 
 pub order-roots-spec : {M : Type 1} → statement M
 order-roots-spec =
