@@ -1,6 +1,6 @@
 // Byte strings: equality, byte order, parts, and big-endian numbers.
 ghost use mathlib.Core.Path.{_≡_};
-ghost use Prim.Native.Nat.{_<_, _≤_};
+ghost use Prim.Native.Nat.{_+_, _<_, _≤_};
 ghost use mathlib.Core.Bool.{cond, _&&_};
 ghost use lib.ListN.{length, getD, take, drop};
 ghost use lib.Dec.{eqb, ltb};
@@ -16,19 +16,53 @@ fn and_equal(equal: bool, a: u8, b: u8) -> bool
     false
 }
 
-// Whether a and b hold the same bytes. The lengths are compared first. There is no early exit from the bytes, so that the compiler
-// can take several at once.
+// Whether both hold.
+pub fn and(a: bool, b: bool) -> bool
+    ensures { λ r. ⌜ r ≡ (a && b) ⌝ }
+{
+    if a {
+        return b;
+    }
+    false
+}
+
+// Whether the n bytes of a from `at` on are those of b. There is no early exit, so that the compiler can take all of them at once where n
+// is a constant.
+fn same_in(a: &[u8], b: &[u8], at: usize, n: usize) -> bool
+    requires { ⌜ at + n ≤ length (now a) ⌝ }
+    requires { ⌜ at + n ≤ length (now b) ⌝ }
+    ensures { λ r. ⌜ r ≡ sameBytes (take n (drop at (now (a .entry)))) (take n (drop at (now (b .entry)))) ⌝ }
+{
+    let mut equal = true;
+    let mut k: usize = 0;
+    while k < n {
+        equal = and_equal(equal, a[at + k], b[at + k]);
+        k += 1;
+    }
+    equal
+}
+
+// Whether a and b hold the same bytes. The lengths are compared first. 16 or more bytes are taken 16 at a time, and fewer than 16, but 8 at
+// least, 8 at a time; the last part may have bytes in common with the one before it.
 pub fn same(a: &[u8], b: &[u8]) -> bool
     ensures { λ r. ⌜ r ≡ sameBytes (now (a .entry)) (now (b .entry)) ⌝ }
 {
-    if a.len() != b.len() {
+    let n = a.len();
+    if n != b.len() {
         return false;
     }
-    let mut equal = true;
+    if n < 8 {
+        return same_in(a, b, 0, n);
+    }
+    if n < 16 {
+        return and(same_in(a, b, 0, 8), same_in(a, b, n - 8, 8));
+    }
+    let last = n - 16;
+    let mut equal = same_in(a, b, last, 16);
     let mut i: usize = 0;
-    while i < a.len() {
-        equal = and_equal(equal, a[i], b[i]);
-        i += 1;
+    while i < last {
+        equal = and(equal, same_in(a, b, i, 16));
+        i += 16;
     }
     equal
 }

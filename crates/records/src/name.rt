@@ -1,10 +1,11 @@
 // Names, versions and lists of names, as they stand at the front of a slice.
 ghost use mathlib.Core.Path.{_≡_};
-ghost use Prim.Native.Nat.{_≤_};
+ghost use Prim.Native.Nat.{_+_, _≤_};
 ghost use mathlib.Core.Bool.{_&&_};
-ghost use lib.ListN.{length};
+ghost use lib.ListN.{length, take, drop};
 ghost use lib.Dec.{leb};
 ghost use Rattle.records.specs.Name.{printable as isPrintable, nameOf, afterName, isField, isName, isNames, isList, isVersion, isNameVersion, isNameList, memName, namesOf, listOf};
+use crate::bytes::and;
 use crate::bytes::be16;
 use crate::bytes::byte;
 use crate::bytes::head;
@@ -28,15 +29,42 @@ fn and_printable(good: bool, b: u8) -> bool
     and_le(and_le(good, 0x21, b), b, 0x7E)
 }
 
-// Whether every byte of s is from 0x21 to 0x7E. There is no early exit, so that the compiler can take several at once.
+// Whether the n bytes of s from `at` on are printable. There is no early exit, so that the compiler can take all of them at once where n
+// is a constant.
+fn printable_in(s: &[u8], at: usize, n: usize) -> bool
+    requires { ⌜ at + n ≤ length (now s) ⌝ }
+    ensures { λ r. ⌜ r ≡ isPrintable (take n (drop at (now (s .entry)))) ⌝ }
+{
+    let mut good = true;
+    let mut k: usize = 0;
+    while k < n {
+        good = and_printable(good, s[at + k]);
+        k += 1;
+    }
+    good
+}
+
+// Whether every byte of s is from 0x21 to 0x7E. The bytes are taken 16 at a time, or 8 or 4 where there are fewer than 16 or 8; the last
+// part may have bytes in common with the one before it.
 pub fn printable(s: &[u8]) -> bool
     ensures { λ r. ⌜ r ≡ isPrintable (now (s .entry)) ⌝ }
 {
-    let mut good = true;
+    let n = s.len();
+    if n < 4 {
+        return printable_in(s, 0, n);
+    }
+    if n < 8 {
+        return and(printable_in(s, 0, 4), printable_in(s, n - 4, 4));
+    }
+    if n < 16 {
+        return and(printable_in(s, 0, 8), printable_in(s, n - 8, 8));
+    }
+    let last = n - 16;
+    let mut good = printable_in(s, last, 16);
     let mut i: usize = 0;
-    while i < s.len() {
-        good = and_printable(good, s[i]);
-        i += 1;
+    while i < last {
+        good = and(good, printable_in(s, i, 16));
+        i += 16;
     }
     good
 }

@@ -1,16 +1,17 @@
 -- Laws of the definitions of specs/Bytes.antt, and what each turn of the loops over them shows.
 use Prim.Native.Nat.{ℕ, suc, _+_, _*_, _-_, _≤_, _<_}
 use mathlib.Core.Path.{_≡_, refl, sym, _∙_, ap, ap₂}
-use mathlib.Core.List.{List, [], _∷_}
+use mathlib.Core.List.{List, [], _∷_, _++_}
 use mathlib.Core.Bool.{Bool, true, false, cond, _&&_}
 use native.Mathlib.Omega.{arith}
 use native.Mathlib.Numerals.{add-one}
-use lib.ListN.{length, getD, take, drop, drop-of-length-le, List·getD-eq-default, length-drop}
+use lib.ListN.{length, getD, take, drop, drop-of-length-le, List·getD-eq-default, length-take, length-drop}
 use native.Mathlib.Nat.{le-of-lt, add-assoc}
-use lib.Seq.{drop-cons, take-all, getD-drop}
+use lib.Seq.{drop-cons, drop-drop, take-all, take-add, take-length, length-take-le, getD-drop}
 use lib.Dec.{ltb, eqb}
 use borrow.Author.Tests.{eq-eqb, ne-eqb, lt-ltb, le-ltb, eqb-true, ltb-true, ltb-false}
 use Rattle.records.specs.Bytes.{sameBytes, beforeBytes, u16At, DifferAt}
+use Rattle.records.proofs.bytes.Parts.{Splits, PartsAt, cover, parts-more, parts-done}
 use Rattle.records.proofs.Logic.{clash, and-true, and-false, and-assoc, or-false}
 
 -- ---- parts
@@ -68,32 +69,106 @@ equal-not equal a b ne = sym (rw (ne-eqb a b ne) (and-false equal))
 
 pub ruleset equal-laws = (equal-same, equal-not)
 
--- `equal` says whether the strings agree before i, and with what is left it decides
-pub record SameAt (a b : List ℕ) (equal : Bool) (i : ℕ) : Type 0 where
-  pub within : i ≤ length a
-  pub long : length a ≡ length b
-  pub left : sameBytes a b ≡ (equal && sameBytes (drop i a) (drop i b))
+-- strings that are put together of parts of the same length
+same-append : (a b c d : List ℕ) → length a ≡ length b → sameBytes (a ++ c) (b ++ d) ≡ (sameBytes a b && sameBytes c d)
+unfolding sameBytes
+same-append [] [] c d e = refl
+same-append [] (y ∷ ys) c d e = absurd (omega arith)
+same-append (x ∷ xs) [] c d e = absurd (omega arith)
+same-append (x ∷ xs) (y ∷ ys) c d e = rw (same-append xs ys c d (omega (arith, e))) (and-assoc (eqb x y) (sameBytes xs ys) (sameBytes c d))
 
-pub same-start : (a b : List ℕ) → length a ≡ length b → SameAt a b true 0
-same-start a b e = record { within = omega arith; long = e; left = refl }
+-- the n bytes from i on are the same
+abbrev samePart : List ℕ → List ℕ → ℕ → ℕ → Bool
+samePart a b i n = sameBytes (take n (drop i a)) (take n (drop i b))
 
-module _ {a b : List ℕ} {equal : Bool} {i : ℕ} (h : SameAt a b equal i) where
-  pub same-in : i < length a → i < length b
-  same-in l = omega (arith, h .long)
+same-split : (a b : List ℕ) (i n j m : ℕ) → length (take n (drop i a)) ≡ length (take n (drop i b)) → i + n ≡ j
+    → samePart a b i (n + m) ≡ (samePart a b i n && samePart a b j m)
+same-split a b i n j m e ej =
+    rw (take-add n m (drop i a), take-add n m (drop i b), drop-drop n i a, drop-drop n i b, ej)
+    (same-append (take n (drop i a)) (take n (drop i b)) (take m (drop j a)) (take m (drop j b)) e)
 
-  pub same-more : (r : Bool) → i < length a → r ≡ (equal && eqb (getD a i 0) (getD b i 0)) → SameAt a b r (i + 1)
+same-splits : (a b : List ℕ) → length a ≡ length b → Splits (samePart a b)
+same-splits a b e i n j m ej = same-split a b i n j m (simp (length-take, length-drop, e)) ej
+
+part-long : (s : List ℕ) (i n : ℕ) → i + n ≤ length s → length (take n (drop i s)) ≡ n
+part-long s i n l = length-take-le n (drop i s) (rw length-drop (omega arith))
+
+-- `equal` says whether the first k bytes from `at` on are the same
+pub record SameInAt (a b : List ℕ) (at n : ℕ) (equal : Bool) (k : ℕ) : Type 0 where
+  pub in-a : at + n ≤ length a
+  pub in-b : at + n ≤ length b
+  pub within : k ≤ n
+  pub got : equal ≡ samePart a b at k
+
+module _ (a b : List ℕ) (at n : ℕ) where
+  pub same-in-start : at + n ≤ length a → at + n ≤ length b → SameInAt a b at n true 0
   unfolding sameBytes
-  same-more r la e = record {
-    within = omega arith;
+  same-in-start la lb = record { in-a = la; in-b = lb; within = omega arith; got = refl }
+
+  module _ (equal : Bool) (k : ℕ) (h : SameInAt a b at n equal k) where
+    pub same-in-a : k < n → at + k < length a
+    same-in-a l = omega (arith, h .in-a)
+
+    pub same-in-b : k < n → at + k < length b
+    same-in-b l = omega (arith, h .in-b)
+
+    pub same-in-more : (r : Bool) → k < n → r ≡ (equal && eqb (getD a (at + k) 0) (getD b (at + k) 0)) → SameInAt a b at n r (k + 1)
+    unfolding sameBytes
+    same-in-more r l e =
+        let la : at + k < length a = same-in-a l in
+        let lb : at + k < length b = same-in-b l in
+        let one : samePart a b (at + k) 1 ≡ eqb (getD a (at + k) 0) (getD b (at + k) 0) = rw (drop-cons a (at + k) 0 la, drop-cons b (at + k) 0 lb) (and-true (eqb (getD a (at + k) 0) (getD b (at + k) 0))) in
+        record {
+          in-a = h .in-a;
+          in-b = h .in-b;
+          within = omega arith;
+          got = e ∙ (ap₂ _&&_ (h .got) (sym one) ∙ sym (same-split a b at k (at + k) 1 (part-long a at k (omega arith) ∙ sym (part-long b at k (omega arith))) refl));
+        }
+
+    pub same-in-done : n ≤ k → equal ≡ samePart a b at n
+    same-in-done l = let e : k ≡ n = omega (arith, h .within) in h .got ∙ ap (samePart a b at) e
+
+pub ruleset same-in-laws = (same-in-start, same-in-a, same-in-b, same-in-more, same-in-done)
+
+-- the first i bytes and the last 16 are compared
+pub record SameAt (a b : List ℕ) (last : ℕ) (equal : Bool) (i : ℕ) : Type 0 where
+  pub long : length a ≡ length b
+  pub at-last : last ≡ length a - 16
+  pub parts : PartsAt (samePart a b) (length a) equal i
+
+module _ (a b : List ℕ) (e : length a ≡ length b) where
+  whole : samePart a b 0 (length a) ≡ sameBytes a b
+  whole = rw (take-length a, e, take-length b)
+
+  pub same-short : (r : Bool) → r ≡ samePart a b 0 (length a) → r ≡ sameBytes a b
+  same-short r er = er ∙ whole
+
+  pub same-two : (x y r : Bool) → 8 ≤ length a → length a < 16 → x ≡ samePart a b 0 8 → y ≡ samePart a b (length a - 8) 8 → r ≡ (x && y) → r ≡ sameBytes a b
+  same-two x y r l m ex ey er =
+      er ∙ (ap₂ _&&_ ex ey ∙ (sym (cover (samePart a b) (same-splits a b e) (length a) 8 8 l l (omega arith)) ∙ whole))
+
+  pub same-start : (r : Bool) → 16 ≤ length a → r ≡ samePart a b (length a - 16) 16 → SameAt a b (length a - 16) r 0
+  unfolding sameBytes
+  same-start r l er = record { long = e; at-last = refl; parts = record { long = l; within = omega arith; got = er } }
+
+module _ (a b : List ℕ) (last : ℕ) (equal : Bool) (i : ℕ) (h : SameAt a b last equal i) where
+  pub same-at-a : i < last → i + 16 ≤ length a
+  same-at-a l = omega (arith, h .at-last)
+
+  pub same-at-b : i < last → i + 16 ≤ length b
+  same-at-b l = omega (arith, h .at-last, h .long)
+
+  pub same-more : (x r : Bool) → i < last → x ≡ samePart a b i 16 → r ≡ (equal && x) → SameAt a b last r (i + 16)
+  same-more x r l ex er = record {
     long = h .long;
-    left = h .left ∙ rw (add-one, drop-cons a i 0 la, drop-cons b i 0 (same-in la), e) (and-assoc equal (eqb (getD a i 0) (getD b i 0)) (sameBytes (drop (suc i) a) (drop (suc i) b)));
+    at-last = h .at-last;
+    parts = parts-more (samePart a b) (same-splits a b (h .long)) (length a) equal i (h .parts) r (omega (arith, h .at-last)) (er ∙ ap (λ (y : Bool). equal && y) ex);
   }
 
-  pub same-done : length a ≤ i → equal ≡ sameBytes a b
-  unfolding sameBytes
-  same-done la = sym (h .left ∙ rw (drop-of-length-le a la, drop-of-length-le b {i = i} (omega (arith, h .long))) (and-true equal))
+  pub same-done : last ≤ i → equal ≡ sameBytes a b
+  same-done l = parts-done (samePart a b) (same-splits a b (h .long)) (length a) equal i (h .parts) (omega (arith, h .at-last)) ∙ whole a b (h .long)
 
-pub ruleset same-laws = (same-lengths, same-start, same-in, same-more, same-done)
+pub ruleset same-laws = (same-lengths, same-short, same-two, same-start, same-at-a, same-at-b, same-more, same-done)
 
 -- strings that compare equal are equal, and the other way
 pub same-eq : (a b : List ℕ) → sameBytes a b ≡ true → a ≡ b

@@ -1,16 +1,17 @@
 -- Laws of names, and what each turn of the loops over them shows.
 use Prim.Native.Nat.{ℕ, zero, suc, _+_, _-_, _≤_, _<_, zero-le}
 use Rattle.records.specs.Bytes.{sameBytes, u16At}
-use mathlib.Core.Path.{_≡_, refl, sym, _∙_}
-use mathlib.Core.List.{List}
+use mathlib.Core.Path.{_≡_, refl, sym, _∙_, ap, ap₂}
+use mathlib.Core.List.{List, [], _∷_, _++_}
 use mathlib.Core.Bool.{Bool, true, false, _&&_, _||_, not}
 use native.Mathlib.Omega.{arith}
 use native.Mathlib.Nat.{le-antisymm, not-suc-le-zero}
 use native.Mathlib.Numerals.{add-one, sub-one}
-use lib.ListN.{length, getD, take, drop, drop-of-length-le, length-take}
-use lib.Seq.{drop-cons}
+use lib.ListN.{length, getD, take, drop, length-take}
+use lib.Seq.{drop-cons, drop-drop, take-add, take-length}
 use lib.Dec.{leb, eqb}
 use borrow.Author.Tests.{lt-ltb, le-ltb, le-leb, lt-leb, not-true, not-false}
+use Rattle.records.proofs.bytes.Parts.{Splits, PartsAt, cover, parts-more, parts-done}
 use Rattle.records.proofs.Logic.{and-true, and-false, and-assoc}
 use Rattle.records.specs.Name.{printable, nameOf, afterName, isField, isName, isEmpty, isNames, isList, isVersion, namesOf, listOf, memName}
 
@@ -34,27 +35,87 @@ le-both good b r s er es = es ∙ rw er (sym (and-assoc good (leb 0x21 b) (leb b
 
 pub ruleset byte-laws = (le-true, le-false, le-both)
 
--- `good` says whether the bytes before i are printable, and with what is left it decides
-pub record PrintableAt (s : List ℕ) (good : Bool) (i : ℕ) : Type 0 where
-  pub within : i ≤ length s
-  pub left : printable s ≡ (good && printable (drop i s))
+printable-append : (a b : List ℕ) → printable (a ++ b) ≡ (printable a && printable b)
+unfolding printable
+printable-append [] b = refl
+printable-append (x ∷ xs) b = rw (printable-append xs b) (and-assoc (leb 0x21 x && leb x 0x7E) (printable xs) (printable b))
 
-pub printable-start : (s : List ℕ) → PrintableAt s true 0
-printable-start s = record { within = omega arith; left = refl }
+-- the n bytes from i on are printable
+abbrev printablePart : List ℕ → ℕ → ℕ → Bool
+printablePart s i n = printable (take n (drop i s))
 
-module _ {s : List ℕ} {good : Bool} {i : ℕ} (h : PrintableAt s good i) where
-  pub printable-more : (r : Bool) → i < length s → r ≡ (good && (leb 0x21 (getD s i 0) && leb (getD s i 0) 0x7E)) → PrintableAt s r (i + 1)
+printable-splits : (s : List ℕ) → Splits (printablePart s)
+printable-splits s i n j m ej = rw (take-add n m (drop i s), drop-drop n i s, ej) (printable-append (take n (drop i s)) (take m (drop j s)))
+
+-- `good` says whether the first k bytes from `at` on are printable
+pub record PrintableInAt (s : List ℕ) (at n : ℕ) (good : Bool) (k : ℕ) : Type 0 where
+  pub in-s : at + n ≤ length s
+  pub within : k ≤ n
+  pub got : good ≡ printablePart s at k
+
+module _ (s : List ℕ) (at n : ℕ) where
+  pub printable-in-start : at + n ≤ length s → PrintableInAt s at n true 0
   unfolding printable
-  printable-more r l e = record {
-    within = omega arith;
-    left = h .left ∙ rw (add-one, drop-cons s i 0 l, e) (and-assoc good (leb 0x21 (getD s i 0) && leb (getD s i 0) 0x7E) (printable (drop (suc i) s)));
+  printable-in-start l = record { in-s = l; within = omega arith; got = refl }
+
+  module _ (good : Bool) (k : ℕ) (h : PrintableInAt s at n good k) where
+    pub printable-in-s : k < n → at + k < length s
+    printable-in-s l = omega (arith, h .in-s)
+
+    pub printable-in-more : (r : Bool) → k < n → r ≡ (good && (leb 0x21 (getD s (at + k) 0) && leb (getD s (at + k) 0) 0x7E)) → PrintableInAt s at n r (k + 1)
+    unfolding printable
+    printable-in-more r l e =
+        let one : printablePart s (at + k) 1 ≡ (leb 0x21 (getD s (at + k) 0) && leb (getD s (at + k) 0) 0x7E) = rw (drop-cons s (at + k) 0 (printable-in-s l)) (and-true (leb 0x21 (getD s (at + k) 0) && leb (getD s (at + k) 0) 0x7E)) in
+        record {
+          in-s = h .in-s;
+          within = omega arith;
+          got = e ∙ (ap₂ _&&_ (h .got) (sym one) ∙ sym (printable-splits s at k (at + k) 1 refl));
+        }
+
+    pub printable-in-done : n ≤ k → good ≡ printablePart s at n
+    printable-in-done l = let e : k ≡ n = omega (arith, h .within) in h .got ∙ ap (printablePart s at) e
+
+pub ruleset printable-in-laws = (printable-in-start, printable-in-s, printable-in-more, printable-in-done)
+
+-- the first i bytes and the last 16 are read
+pub record PrintableAt (s : List ℕ) (last : ℕ) (good : Bool) (i : ℕ) : Type 0 where
+  pub at-last : last ≡ length s - 16
+  pub parts : PartsAt (printablePart s) (length s) good i
+
+module _ (s : List ℕ) where
+  whole : printablePart s 0 (length s) ≡ printable s
+  whole = rw (take-length s)
+
+  two : (k : ℕ) (x y r : Bool) → k ≤ length s → length s ≤ k + k → x ≡ printablePart s 0 k → y ≡ printablePart s (length s - k) k → r ≡ (x && y) → r ≡ printable s
+  two k x y r l m ex ey er = er ∙ (ap₂ _&&_ ex ey ∙ (sym (cover (printablePart s) (printable-splits s) (length s) k k l l m) ∙ whole))
+
+  pub printable-short : (r : Bool) → r ≡ printablePart s 0 (length s) → r ≡ printable s
+  printable-short r er = er ∙ whole
+
+  pub printable-fours : (x y r : Bool) → 4 ≤ length s → length s < 8 → x ≡ printablePart s 0 4 → y ≡ printablePart s (length s - 4) 4 → r ≡ (x && y) → r ≡ printable s
+  printable-fours x y r l m ex ey er = two 4 x y r l (omega arith) ex ey er
+
+  pub printable-eights : (x y r : Bool) → 8 ≤ length s → length s < 16 → x ≡ printablePart s 0 8 → y ≡ printablePart s (length s - 8) 8 → r ≡ (x && y) → r ≡ printable s
+  printable-eights x y r l m ex ey er = two 8 x y r l (omega arith) ex ey er
+
+  pub printable-start : (r : Bool) → 16 ≤ length s → r ≡ printablePart s (length s - 16) 16 → PrintableAt s (length s - 16) r 0
+  unfolding printable
+  printable-start r l er = record { at-last = refl; parts = record { long = l; within = omega arith; got = er } }
+
+module _ (s : List ℕ) (last : ℕ) (good : Bool) (i : ℕ) (h : PrintableAt s last good i) where
+  pub printable-at : i < last → i + 16 ≤ length s
+  printable-at l = omega (arith, h .at-last)
+
+  pub printable-more : (x r : Bool) → i < last → x ≡ printablePart s i 16 → r ≡ (good && x) → PrintableAt s last r (i + 16)
+  printable-more x r l ex er = record {
+    at-last = h .at-last;
+    parts = parts-more (printablePart s) (printable-splits s) (length s) good i (h .parts) r (omega (arith, h .at-last)) (er ∙ ap (λ (y : Bool). good && y) ex);
   }
 
-  pub printable-done : length s ≤ i → good ≡ printable s
-  unfolding printable
-  printable-done l = sym (h .left ∙ rw (drop-of-length-le s l) (and-true good))
+  pub printable-done : last ≤ i → good ≡ printable s
+  printable-done l = parts-done (printablePart s) (printable-splits s) (length s) good i (h .parts) (omega (arith, h .at-last)) ∙ whole s
 
-pub ruleset printable-laws = (printable-start, printable-more, printable-done)
+pub ruleset printable-laws = (printable-short, printable-fours, printable-eights, printable-start, printable-at, printable-more, printable-done)
 
 module _ (s : List ℕ) (n : ℕ) (e : n ≡ getD s 0 0) where
   pub field-short : length s < 1 + n → false ≡ isField s
