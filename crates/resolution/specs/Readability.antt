@@ -59,6 +59,11 @@ unfoldable pub transitiveAt : List Name → List ℕ → Bool → Descriptor →
 unfolding requiredAt
 transitiveAt l ws member m j = member && requiredAt l ws true (m .requires) j
 
+-- the members that m reads directly, where m is itself a member
+unfoldable pub directFrom : List Name → List ℕ → Bool → Descriptor → ℕ → Bool
+unfolding directAt
+directFrom l ws member m j = member && directAt l ws m j
+
 -- a member other than the one at p
 unfoldable pub othersAt : List ℕ → ℕ → ℕ → Bool
 othersAt ws p j = holds ws j && not (eqb j p)
@@ -122,6 +127,10 @@ pub record RowSet (before : List ℕ) (i : ℕ) (ws : List ℕ) (after : List �
 -- g has the transitive requirements between members
 pub record TransitiveGraph (s t : List ℕ) (n : ℕ) (ws g : List ℕ) : Type 0 where
   pub each : (i j : ℕ) → edge g i j ≡ transitiveAt (tableNames s t n) ws (holds ws i) (descriptorOf (blockAt s t i)) j
+
+-- each row of `reads` is what that module reads directly
+pub record DirectRows (s t : List ℕ) (n : ℕ) (ws reads : List ℕ) : Type 0 where
+  pub each : (i j : ℕ) → edge reads i j ≡ directFrom (tableNames s t n) ws (holds ws i) (descriptorOf (blockAt s t i)) j
 
 -- each row of `reads` is what that module reads without AR
 pub record ReadRows (s t : List ℕ) (n : ℕ) (ws g reads : List ℕ) : Type 0 where

@@ -1,16 +1,18 @@
 // Who reads whom among the members: the read edges, over positions in the set.
 ghost use mathlib.Core.Path.{_≡_};
-ghost use mathlib.Core.Bool.{not, _||_};
+ghost use mathlib.Core.Bool.{true, false};
 ghost use Prim.Native.Nat.{_<_};
 ghost use lib.ListN.{length};
+ghost use Rattle.records.specs.Name.{javaBase};
 ghost use Rattle.records.specs.Descriptor.{descriptorOf, requirementOf};
 ghost use Rattle.records.specs.Request.{readOf, requestOf};
 ghost use Rattle.records.specs.Set.{checkSet, blockAt};
 ghost use Rattle.records.specs.Finder.{findName};
 ghost use Rattle.records.specs.declared.set.SetAnswer.the-variants.{Modules};
 ghost use Rattle.resolution.specs.Row.{holds};
+ghost use Rattle.resolution.specs.Graph.{Successors};
 ghost use Rattle.resolution.specs.Lookup.{Lookup};
-ghost use Rattle.resolution.specs.Readability.{tableNames, memberOf, isNamed, requiredAt, directAt, othersAt, transitiveAt, unnamedFrom, edgeFrom, Below, ModuleReads, WithMore, Holding, WithEdges, RowSet, TransitiveGraph, ReadRows, ReadAdded, ReadsAdded, ReadEdges};
+ghost use Rattle.resolution.specs.Readability.{tableNames, memberOf, isAt, isRequired, requiredAt, directFrom, othersAt, transitiveAt, unnamedFrom, edgeFrom, Below, ModuleReads, WithMore, Holding, WithEdges, RowSet, TransitiveGraph, DirectRows, ReadRows, ReadAdded, ReadsAdded, ReadEdges};
 use crate::reach::reachable_from;
 use crate::reach::set_edge;
 use crate::row::Row;
@@ -31,6 +33,12 @@ use records::record::Cursor;
 use records::record::Kind;
 use records::record::Next;
 use records::set::block;
+
+// The members that a block requires, and of these the ones that it requires transitively.
+pub struct Required {
+    pub all: Row,
+    pub transitive: Row,
+}
 
 // The member of this name.
 fn member(
@@ -55,36 +63,44 @@ fn member(
     }
 }
 
-// The row with the member of this name more.
-fn with_member(
-    set: &[u8],
-    starts: &[usize],
-    count: usize,
-    index: &[u16],
-    members: Row,
-    row: Row,
-    name: &[u8],
-) -> Row
-    requires { ⌜ Lookup (now set) (now starts) count (now index) ⌝ }
-    ensures { λ r. ⌜ WithMore (row .words) (isNamed (tableNames (now (set .entry)) (now (starts .entry)) count) (members .words) (now (name .entry))) (r .words) ⌝ }
+// The row with what is found more.
+fn with_found(row: Row, found: Found) -> Row
+    requires { ⌜ Below found ⌝ }
+    ensures { λ r. ⌜ WithMore (row .words) (isAt found) (r .words) ⌝ }
 {
-    match member(set, starts, count, index, members, name) {
+    match found {
         Found::At(i) => with(row, i),
         Found::Nothing => row,
     }
 }
 
-// Whether a requirement counts, where `only` says that only transitive ones do.
-fn counts(only: bool, body: &[u8]) -> bool
-    ensures { λ r. ⌜ r ≡ not only || requirementOf (now (body .entry)) .transitive ⌝ }
+// The rows with the member of one requirement more. It is looked up once for both.
+fn with_required(
+    set: &[u8],
+    starts: &[usize],
+    count: usize,
+    index: &[u16],
+    members: Row,
+    body: &[u8],
+    rows: Required,
+) -> Required
+    requires { ⌜ Lookup (now set) (now starts) count (now index) ⌝ }
+    ensures { λ r. ⌜ WithMore (rows .all .words) (isRequired (tableNames (now (set .entry)) (now (starts .entry)) count) (members .words) false (requirementOf (now (body .entry)))) (r .all .words) ⌝ }
+    ensures { λ r. ⌜ WithMore (rows .transitive .words) (isRequired (tableNames (now (set .entry)) (now (starts .entry)) count) (members .words) true (requirementOf (now (body .entry)))) (r .transitive .words) ⌝ }
 {
-    if only {
-        return is_transitive(body);
+    let found = member(set, starts, count, index, members, required(body));
+    let all = with_found(rows.all, found);
+    let transitive = rows.transitive;
+    if is_transitive(body) {
+        return Required {
+            all,
+            transitive: with_found(transitive, found),
+        };
     }
-    true
+    Required { all, transitive }
 }
 
-// The members that a block requires, or only those that it requires transitively.
+// The members that a block requires.
 fn required_members(
     set: &[u8],
     starts: &[usize],
@@ -92,46 +108,62 @@ fn required_members(
     index: &[u16],
     members: Row,
     block: &[u8],
-    only: bool,
-) -> Row
+) -> Required
     requires { ⌜ Lookup (now set) (now starts) count (now index) ⌝ }
-    ensures { λ r. ⌜ Holding (r .words) (requiredAt (tableNames (now (set .entry)) (now (starts .entry)) count) (members .words) only (descriptorOf (now (block .entry)) .requires)) ⌝ }
+    ensures { λ r. ⌜ Holding (r .all .words) (requiredAt (tableNames (now (set .entry)) (now (starts .entry)) count) (members .words) false (descriptorOf (now (block .entry)) .requires)) ⌝ }
+    ensures { λ r. ⌜ Holding (r .transitive .words) (requiredAt (tableNames (now (set .entry)) (now (starts .entry)) count) (members .words) true (descriptorOf (now (block .entry)) .requires)) ⌝ }
 {
-    let mut row = empty();
+    let mut rows = Required {
+        all: empty(),
+        transitive: empty(),
+    };
     let mut c = Cursor { at: 0 };
     loop {
         match c.next(block, Kind::Requires) {
             Next::Body { start, len, next } => {
                 let body = part(block, start, len);
                 c = next;
-                if counts(only, body) {
-                    row = with_member(set, starts, count, index, members, row, required(body));
-                }
+                rows = with_required(set, starts, count, index, members, body, rows);
             }
             Next::Nothing => {
-                return row;
+                return rows;
             }
         }
     }
 }
 
-// The members that a block's module reads directly: those that it requires, and java.base (not for itself).
-fn direct_members(
+// What the module at p reads directly, that is the members that it requires and java.base (not for itself), and what it requires
+// transitively; nothing, where it is no member.
+fn direct_rows(
     set: &[u8],
     starts: &[usize],
     count: usize,
     index: &[u16],
     members: Row,
-    block: &[u8],
-) -> Row
+    base: Found,
+    p: usize,
+) -> Required
     requires { ⌜ Lookup (now set) (now starts) count (now index) ⌝ }
-    ensures { λ r. ⌜ Holding (r .words) (directAt (tableNames (now (set .entry)) (now (starts .entry)) count) (members .words) (descriptorOf (now (block .entry)))) ⌝ }
+    requires { ⌜ base ≡ memberOf (members .words) (findName (tableNames (now set) (now starts) count) javaBase 0) ⌝ }
+    ensures { λ r. ⌜ Holding (r .all .words) (directFrom (tableNames (now (set .entry)) (now (starts .entry)) count) (members .words) (holds (members .words) p) (descriptorOf (blockAt (now (set .entry)) (now (starts .entry)) p))) ⌝ }
+    ensures { λ r. ⌜ Holding (r .transitive .words) (transitiveAt (tableNames (now (set .entry)) (now (starts .entry)) count) (members .words) (holds (members .words) p) (descriptorOf (blockAt (now (set .entry)) (now (starts .entry)) p))) ⌝ }
 {
-    let row = required_members(set, starts, count, index, members, block, false);
-    if same(name(block), b"java.base") {
-        return row;
+    if has(members, p) {
+        let b = block(set, starts, p);
+        let rows = required_members(set, starts, count, index, members, b);
+        if same(name(b), b"java.base") {
+            return rows;
+        }
+        let transitive = rows.transitive;
+        return Required {
+            all: with_found(rows.all, base),
+            transitive,
+        };
     }
-    with_member(set, starts, count, index, members, row, b"java.base")
+    Required {
+        all: empty(),
+        transitive: empty(),
+    }
 }
 
 // The row with all members but p more.
@@ -152,56 +184,39 @@ fn with_others(row: Row, members: Row, p: usize) -> Row
     out
 }
 
-// The members that the module at p requires transitively; none, where it is no member.
-fn transitive_row(
-    set: &[u8],
-    starts: &[usize],
-    count: usize,
-    index: &[u16],
-    members: Row,
-    p: usize,
-) -> Row
-    requires { ⌜ Lookup (now set) (now starts) count (now index) ⌝ }
-    ensures { λ r. ⌜ Holding (r .words) (transitiveAt (tableNames (now (set .entry)) (now (starts .entry)) count) (members .words) (holds (members .words) p) (descriptorOf (blockAt (now (set .entry)) (now (starts .entry)) p))) ⌝ }
-{
-    if has(members, p) {
-        return required_members(
-            set,
-            starts,
-            count,
-            index,
-            members,
-            block(set, starts, p),
-            true,
-        );
-    }
-    empty()
-}
-
-// What the module at p reads without AR, by the graph of transitive requirements.
+// What the module at p reads without AR, by the graph of transitive requirements and what it reads directly.
 fn read_row(
     set: &[u8],
     starts: &[usize],
     count: usize,
-    index: &[u16],
     members: Row,
     graph: &[u64],
+    direct: Row,
     p: usize,
 ) -> Row
-    requires { ⌜ Lookup (now set) (now starts) count (now index) ⌝ }
     requires { ⌜ length (now graph) ≡ 1024 ⌝ }
+    requires { ⌜ Holding (direct .words) (directFrom (tableNames (now set) (now starts) count) (members .words) (holds (members .words) p) (descriptorOf (blockAt (now set) (now starts) p))) ⌝ }
     ensures { λ r. ⌜ ModuleReads (tableNames (now (set .entry)) (now (starts .entry)) count) (members .words) (now (graph .entry)) (descriptorOf (blockAt (now (set .entry)) (now (starts .entry)) p)) p (holds (r .words)) ⌝ }
 {
     if has(members, p) {
-        let b = block(set, starts, p);
-        let direct = direct_members(set, starts, count, index, members, b);
         let row = reachable_from(graph, direct);
-        if is_automatic(b) {
+        if is_automatic(block(set, starts, p)) {
             return with_others(row, members, p);
         }
         return row;
     }
     empty()
+}
+
+// Row i of the graph.
+fn row_at(g: &[u64], i: usize) -> Row
+    requires { ⌜ length (now g) ≡ 1024 ⌝ }
+    requires { ⌜ i < 256 ⌝ }
+    ensures { λ r. ⌜ Successors (now (g .entry)) i (r .words) ⌝ }
+{
+    let at = i * 4;
+    let words = [g[at], g[at + 1], g[at + 2], g[at + 3]];
+    Row { words }
 }
 
 // Row i of the graph anew.
@@ -218,45 +233,51 @@ fn set_row(g: &mut [u64], i: usize, row: Row)
     g[at + 3] = words[3];
 }
 
-// The graph of the transitive requirements between members.
-fn set_transitive(
+// The graph of the transitive requirements between members, and each row of `reads` anew: what that module reads directly.
+// java.base is looked up once for all.
+fn set_direct(
     set: &[u8],
     starts: &[usize],
     count: usize,
     index: &[u16],
     members: Row,
     graph: &mut [u64],
-)
-    requires { ⌜ Lookup (now set) (now starts) count (now index) ⌝ }
-    requires { ⌜ length (now graph) ≡ 1024 ⌝ }
-    ensures { λ _. ⌜ TransitiveGraph (now (set .entry)) (now (starts .entry)) count (members .words) (now (graph .exit)) ⌝ }
-{
-    let mut k: usize = 0;
-    while k < 256 {
-        let row = transitive_row(set, starts, count, index, members, k);
-        set_row(graph, k, row);
-        k += 1;
-    }
-}
-
-// Each row of `reads` anew: what that module reads without AR.
-fn set_reads(
-    set: &[u8],
-    starts: &[usize],
-    count: usize,
-    index: &[u16],
-    members: Row,
-    graph: &[u64],
     reads: &mut [u64],
 )
     requires { ⌜ Lookup (now set) (now starts) count (now index) ⌝ }
     requires { ⌜ length (now graph) ≡ 1024 ⌝ }
     requires { ⌜ length (now reads) ≡ 1024 ⌝ }
+    ensures { λ _. ⌜ TransitiveGraph (now (set .entry)) (now (starts .entry)) count (members .words) (now (graph .exit)) ⌝ }
+    ensures { λ _. ⌜ DirectRows (now (set .entry)) (now (starts .entry)) count (members .words) (now (reads .exit)) ⌝ }
+{
+    let base = member(set, starts, count, index, members, b"java.base");
+    let mut k: usize = 0;
+    while k < 256 {
+        let rows = direct_rows(set, starts, count, index, members, base, k);
+        set_row(graph, k, rows.transitive);
+        set_row(reads, k, rows.all);
+        k += 1;
+    }
+}
+
+// Each row of `reads` from what that module reads directly to all that it reads without AR.
+fn set_reads(
+    set: &[u8],
+    starts: &[usize],
+    count: usize,
+    members: Row,
+    graph: &[u64],
+    reads: &mut [u64],
+)
+    requires { ⌜ length (now graph) ≡ 1024 ⌝ }
+    requires { ⌜ length (now reads) ≡ 1024 ⌝ }
+    requires { ⌜ DirectRows (now set) (now starts) count (members .words) (now reads) ⌝ }
     ensures { λ _. ⌜ ReadRows (now (set .entry)) (now (starts .entry)) count (members .words) (now (graph .entry)) (now (reads .exit)) ⌝ }
 {
     let mut k: usize = 0;
     while k < 256 {
-        let row = read_row(set, starts, count, index, members, graph, k);
+        let direct = row_at(reads, k);
+        let row = read_row(set, starts, count, members, graph, direct, k);
         set_row(reads, k, row);
         k += 1;
     }
@@ -268,14 +289,7 @@ fn with_unnamed(source: Found, target: &[u8], row: Row) -> Row
     ensures { λ r. ⌜ WithMore (row .words) (unnamedFrom source (now (target .entry))) (r .words) ⌝ }
 {
     if same(target, b"ALL-UNNAMED") {
-        match source {
-            Found::At(i) => {
-                return with(row, i);
-            }
-            Found::Nothing => {
-                return row;
-            }
-        }
+        return with_found(row, source);
     }
     row
 }
@@ -368,7 +382,7 @@ pub fn read_edges(
     ensures { λ r. ⌜ ReadEdges (now (set .entry)) (now (request .entry)) (members .words) (now (reads .exit)) (r .words) ⌝ }
 {
     let mut graph = [0u64; 1024];
-    set_transitive(set, starts, count, index, members, &mut graph);
-    set_reads(set, starts, count, index, members, &graph, reads);
+    set_direct(set, starts, count, index, members, &mut graph, reads);
+    set_reads(set, starts, count, members, &graph, reads);
     add_reads(set, request, starts, count, index, members, reads)
 }

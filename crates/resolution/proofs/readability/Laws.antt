@@ -25,8 +25,8 @@ use Rattle.records.specs.declared.record.Kind.the-variants as Kind
 use Rattle.records.proofs.record.Bodies.{bodies-next, bodies-end, next-room, next-less}
 use Rattle.resolution.specs.Lists.{Name, any}
 use Rattle.resolution.specs.Row.{holds, Empty, Added}
-use Rattle.resolution.specs.Graph.{edge, AddedEdge, ReachedFrom}
-use Rattle.resolution.specs.Readability.{tableNames, memberOf, isAt, isNamed, isRequired, requiredAt, directAt, othersAt, transitiveAt, Below, edgeFrom, unnamedFrom, readAt, unnamedIn, ModuleReads, WithMore, Holding, WithEdges, RowSet, TransitiveGraph, ReadRows, ReadAdded, ReadsAdded}
+use Rattle.resolution.specs.Graph.{edge, Successors, AddedEdge, ReachedFrom}
+use Rattle.resolution.specs.Readability.{tableNames, memberOf, isAt, isNamed, isRequired, requiredAt, directAt, directFrom, othersAt, transitiveAt, Below, edgeFrom, unnamedFrom, readAt, unnamedIn, ModuleReads, WithMore, Holding, WithEdges, RowSet, TransitiveGraph, DirectRows, ReadRows, ReadAdded, ReadsAdded}
 use Rattle.resolution.proofs.Lists.{true≠false, by}
 use Rattle.resolution.proofs.row.Laws.{holds-out}
 use Rattle.resolution.proofs.reach.Edges.{edge-out}
@@ -68,33 +68,38 @@ pub at-below : (r : Found) (i : ℕ) → Below r → r ≡ At i → i < 256
 unfolding Below
 at-below r i b e = subst Below e b
 
--- ---- the row with a member more
+-- ---- the row with what is found more
 
-module _ (l : List Name) (ws : List ℕ) (n : Name) (row : List ℕ) (r : Found) (e : r ≡ memberOf ws (findName l n 0)) where
-  pub with-found : (i : ℕ) (after : List ℕ) → length ws ≡ 4 → r ≡ At i → Added row i after → WithMore row (isNamed l ws n) after
-  unfolding isNamed isAt
-  with-found i after k ei a = record {
-    each = λ j. a .below (at-below r i (member-below ws (findName l n 0) r k e) ei) j
-        ∙ ap (λ (t : Bool). holds row j || t) (ap (λ (f : Found). isAt f j) (sym ei ∙ e));
-  }
+module _ (row : List ℕ) (f : Found) where
+  pub with-at : (i : ℕ) (after : List ℕ) → Below f → f ≡ At i → Added row i after → WithMore row (isAt f) after
+  unfolding isAt
+  with-at i after b e a = record { each = λ j. a .below (at-below f i b e) j ∙ rw e }
 
-  pub with-nothing : r ≡ Nothing → WithMore row (isNamed l ws n) row
-  unfolding isNamed isAt
-  with-nothing en = record {
-    each = λ j. sym (ap (λ (t : Bool). holds row j || t) (ap (λ (f : Found). isAt f j) (sym e ∙ en)) ∙ or-false (holds row j));
-  }
+  pub with-nothing : f ≡ Nothing → WithMore row (isAt f) row
+  unfolding isAt
+  with-nothing e = record { each = λ j. rw e (sym (or-false (holds row j))) }
 
-pub ruleset with-member-laws = (with-found, with-nothing)
+pub ruleset with-found-laws = (with-at, with-nothing)
 
--- ---- whether a requirement counts
+-- ---- the rows with the member of a requirement more
 
-pub counts-only : (only r t : Bool) → only ≡ true → r ≡ t → r ≡ not only || t
-counts-only only r t e h = rw e h
+module _ (l : List Name) (ws body : List ℕ) (n : Name) (en : n ≡ requirementOf body .name) (f : Found) (ef : f ≡ memberOf ws (findName l n 0)) (row : List ℕ) where
+  counted : (only : Bool) (after : List ℕ) → (not only || requirementOf body .transitive) ≡ true → WithMore row (isAt f) after → WithMore row (isRequired l ws only (requirementOf body)) after
+  unfolding isRequired isNamed
+  counted only after y w = record { each = λ j. w .each j ∙ rw (y, ← en, ← ef) }
 
-pub counts-all : (only t : Bool) → only ≡ false → true ≡ not only || t
-counts-all only t e = rw e
+  pub with-all : (after : List ℕ) → WithMore row (isAt f) after → WithMore row (isRequired l ws false (requirementOf body)) after
+  with-all after w = counted false after refl w
 
-pub ruleset counts-laws = (counts-only, counts-all)
+  module _ (t : Bool) (et : t ≡ requirementOf body .transitive) where
+    pub with-transitive : (after : List ℕ) → t ≡ true → WithMore row (isAt f) after → WithMore row (isRequired l ws true (requirementOf body)) after
+    with-transitive after y w = counted true after (sym et ∙ y) w
+
+    pub with-plain : t ≡ false → WithMore row (isRequired l ws true (requirementOf body)) row
+    unfolding isRequired
+    with-plain y = record { each = λ j. rw (← et, y) (sym (or-false (holds row j))) }
+
+pub ruleset with-required-laws = (with-all, with-transitive, with-plain, member-below)
 
 -- ---- the members that a block requires
 
@@ -104,49 +109,44 @@ pub record RequiredAt (l : List Name) (ws : List ℕ) (only : Bool) (b row : Lis
   pub left : (j : ℕ) → requiredAt l ws only (map requirementOf (bodies Kind.Requires b)) j
       ≡ holds row j || requiredAt l ws only (map requirementOf (bodies Kind.Requires (drop at b))) j
 
-pub required-start : (l : List Name) (ws : List ℕ) (only : Bool) (b row : List ℕ) → Empty row → RequiredAt l ws only b row 0
+required-start : (l : List Name) (ws : List ℕ) (only : Bool) (b row : List ℕ) → Empty row → RequiredAt l ws only b row 0
 required-start l ws only b row e = record { within = omega arith; left = λ j. rw (e .none j) }
 
 module _ (l : List Name) (ws : List ℕ) (only : Bool) (b row : List ℕ) (at : ℕ) (h : RequiredAt l ws only b row at) (r : Next) (er : r ≡ nextOf Kind.Requires b at) where
-  module _ (start len : ℕ) (next : Cursor) (e : r ≡ Next.Body start len next) where
-    module _ (body : List ℕ) (eb : body ≡ take len (drop start b)) (c : Bool) (ec : c ≡ not only || requirementOf body .transitive) where
-      turn : (j : ℕ) → requiredAt l ws only (map requirementOf (bodies Kind.Requires b)) j
-          ≡ holds row j || ((c && isNamed l ws (requirementOf body .name) j) || requiredAt l ws only (map requirementOf (bodies Kind.Requires (drop (next .at) b))) j)
-      unfolding requiredAt any isRequired
-      turn j = h .left j ∙ rw (bodies-next Kind.Requires b at r er start len next e (h .within), ← eb, ← ec)
-
-      pub required-more : (n : Name) (after : List ℕ) → c ≡ true → n ≡ requirementOf body .name → WithMore row (isNamed l ws n) after → RequiredAt l ws only b after (next .at)
-      required-more n after t en w = record {
-        within = next-room Kind.Requires b at r er start len next e (h .within);
-        left = λ j. turn j ∙ rw (t, ← en, w .each j)
-            (or-assoc (holds row j) (isNamed l ws n j) (requiredAt l ws only (map requirementOf (bodies Kind.Requires (drop (next .at) b))) j));
-      }
-
-      pub required-pass : c ≡ false → RequiredAt l ws only b row (next .at)
-      required-pass t = record { within = next-room Kind.Requires b at r er start len next e (h .within); left = λ j. turn j ∙ rw t }
-
-    pub required-less : length b - next .at < length b - at
-    required-less = next-less Kind.Requires b at r er start len next e (h .within)
+  required-next : (start len : ℕ) (next : Cursor) → r ≡ Next.Body start len next → (body after : List ℕ) → body ≡ take len (drop start b)
+      → WithMore row (isRequired l ws only (requirementOf body)) after → RequiredAt l ws only b after (next .at)
+  unfolding requiredAt any
+  required-next start len next e body after eb w = record {
+    within = next-room Kind.Requires b at r er start len next e (h .within);
+    left = λ j. h .left j ∙ rw (bodies-next Kind.Requires b at r er start len next e (h .within), ← eb, w .each j)
+        (or-assoc (holds row j) (isRequired l ws only (requirementOf body) j) (requiredAt l ws only (map requirementOf (bodies Kind.Requires (drop (next .at) b))) j));
+  }
 
   pub required-end : r ≡ Next.Nothing → Holding row (requiredAt l ws only (descriptorOf b .requires))
   unfolding descriptorOf requiredAt any
   required-end e = record { each = λ j. sym (h .left j ∙ rw (bodies-end Kind.Requires b at r er e) (or-false (holds row j))) }
 
-pub ruleset required-laws = (required-start, required-more, required-pass, required-less, required-end)
+-- each row does, for the requirements that count for it
+pub record BothAt (l : List Name) (ws b all transitive : List ℕ) (at : ℕ) : Type 0 where
+  pub every : RequiredAt l ws false b all at
+  pub only : RequiredAt l ws true b transitive at
 
--- ---- what is read directly
+pub both-start : (l : List Name) (ws b all transitive : List ℕ) → Empty all → Empty transitive → BothAt l ws b all transitive 0
+both-start l ws b all transitive e f = record { every = required-start l ws false b all e; only = required-start l ws true b transitive f }
 
-module _ (l : List Name) (ws : List ℕ) (b : List ℕ) (n : Name) (en : n ≡ descriptorOf b .name) (t : Bool) (et : t ≡ sameBytes n javaBase) (row : List ℕ)
-    (h : Holding row (requiredAt l ws false (descriptorOf b .requires))) where
-  pub direct-base : t ≡ true → Holding row (directAt l ws (descriptorOf b))
-  unfolding directAt
-  direct-base y = record { each = λ j. h .each j ∙ rw (← en, ← et, y) (sym (or-false (requiredAt l ws false (descriptorOf b .requires) j))) }
+module _ (l : List Name) (ws b all transitive : List ℕ) (at : ℕ) (h : BothAt l ws b all transitive at) (r : Next) (er : r ≡ nextOf Kind.Requires b at)
+    (start len : ℕ) (next : Cursor) (e : r ≡ Next.Body start len next) where
+  pub both-next : (body all₂ transitive₂ : List ℕ) → body ≡ take len (drop start b) → WithMore all (isRequired l ws false (requirementOf body)) all₂
+      → WithMore transitive (isRequired l ws true (requirementOf body)) transitive₂ → BothAt l ws b all₂ transitive₂ (next .at)
+  both-next body all₂ transitive₂ eb w v = record {
+    every = required-next l ws false b all at (h .every) r er start len next e body all₂ eb w;
+    only = required-next l ws true b transitive at (h .only) r er start len next e body transitive₂ eb v;
+  }
 
-  pub direct-other : (after : List ℕ) → t ≡ false → WithMore row (isNamed l ws javaBase) after → Holding after (directAt l ws (descriptorOf b))
-  unfolding directAt
-  direct-other after y w = record { each = λ j. w .each j ∙ rw (← en, ← et, y, h .each j) }
+  pub both-less : length b - next .at < length b - at
+  both-less = next-less Kind.Requires b at r er start len next e (h .every .within)
 
-pub ruleset direct-laws = (direct-base, direct-other)
+pub ruleset required-laws = (both-start, both-next, both-less, required-end)
 
 -- ---- all members but one
 
@@ -220,26 +220,42 @@ others-end row ws p out k h n l = record {
 
 pub ruleset others-laws = (others-start, others-own, others-not, others-more, others-end)
 
--- ---- the row of a module
+-- ---- the rows of a module
 
 module _ (l : List Name) (ws : List ℕ) (s t : List ℕ) (p : ℕ) (h : Bool) (eh : h ≡ holds ws p) where
-  pub transitive-member : (b r : List ℕ) → h ≡ true → b ≡ blockAt s t p → Holding r (requiredAt l ws true (descriptorOf b .requires))
-      → Holding r (transitiveAt l ws (holds ws p) (descriptorOf (blockAt s t p)))
-  unfolding transitiveAt
-  transitive-member b r y eb w = record { each = λ j. w .each j ∙ rw (← eh, y, eb) }
+  module _ (b : List ℕ) (y : h ≡ true) (eb : b ≡ blockAt s t p) where
+    pub transitive-member : (r : List ℕ) → Holding r (requiredAt l ws true (descriptorOf b .requires)) → Holding r (transitiveAt l ws (holds ws p) (descriptorOf (blockAt s t p)))
+    unfolding transitiveAt
+    transitive-member r w = record { each = λ j. w .each j ∙ rw (← eh, y, eb) }
 
-  pub transitive-other : (r : List ℕ) → h ≡ false → Empty r → Holding r (transitiveAt l ws (holds ws p) (descriptorOf (blockAt s t p)))
-  unfolding transitiveAt
-  transitive-other r f w = record { each = λ j. w .none j ∙ rw (← eh, f) }
+    module _ (n : Name) (en : n ≡ descriptorOf b .name) (q : Bool) (eq : q ≡ sameBytes n javaBase) (row : List ℕ) (w : Holding row (requiredAt l ws false (descriptorOf b .requires))) where
+      pub direct-base : q ≡ true → Holding row (directFrom l ws (holds ws p) (descriptorOf (blockAt s t p)))
+      unfolding directFrom directAt
+      direct-base z = record { each = λ j. w .each j ∙ rw (← eh, y, ← eb, ← en, ← eq, z) (sym (or-false (requiredAt l ws false (descriptorOf b .requires) j))) }
 
-  module _ (g b direct reached : List ℕ) (y : h ≡ true) (eb : b ≡ blockAt s t p) (hd : Holding direct (directAt l ws (descriptorOf b)))
+      pub direct-other : (base : Found) (after : List ℕ) → q ≡ false → base ≡ memberOf ws (findName l javaBase 0) → WithMore row (isAt base) after
+          → Holding after (directFrom l ws (holds ws p) (descriptorOf (blockAt s t p)))
+      unfolding directFrom directAt isNamed
+      direct-other base after z e v = record { each = λ j. v .each j ∙ rw (← eh, y, ← eb, ← en, ← eq, z, ← e, w .each j) }
+
+  module _ (r : List ℕ) (f : h ≡ false) (w : Empty r) where
+    pub transitive-other : Holding r (transitiveAt l ws (holds ws p) (descriptorOf (blockAt s t p)))
+    unfolding transitiveAt
+    transitive-other = record { each = λ j. w .none j ∙ rw (← eh, f) }
+
+    pub direct-none : Holding r (directFrom l ws (holds ws p) (descriptorOf (blockAt s t p)))
+    unfolding directFrom
+    direct-none = record { each = λ j. w .none j ∙ rw (← eh, f) }
+
+  module _ (g b direct reached : List ℕ) (y : h ≡ true) (eb : b ≡ blockAt s t p) (hd : Holding direct (directFrom l ws (holds ws p) (descriptorOf (blockAt s t p))))
       (hr : ReachedFrom g direct reached) (a : Bool) (ea : a ≡ descriptorOf b .isAutomatic) where
     both : (out : ℕ → Bool) → ((j : ℕ) → out j ≡ holds reached j || (a && othersAt ws p j)) → ModuleReads l ws g (descriptorOf (blockAt s t p)) p out
+    unfolding directFrom
     both out w = record {
-      member = λ _. record {
+      member = λ z. record {
         direct = direct;
         reached = reached;
-        direct-is = λ j. hd .each j ∙ rw eb;
+        direct-is = λ j. hd .each j ∙ rw z;
         reached-is = hr;
         all = λ j. w j ∙ ap (λ (x : Bool). holds reached j || (x && othersAt ws p j)) (ea ∙ ap (λ (z : List ℕ). descriptorOf z .isAutomatic) eb);
       };
@@ -255,7 +271,7 @@ module _ (l : List Name) (ws : List ℕ) (s t : List ℕ) (p : ℕ) (h : Bool) (
   pub read-none : (g out : List ℕ) → h ≡ false → Empty out → ModuleReads l ws g (descriptorOf (blockAt s t p)) p (holds out)
   read-none g out f e = record { member = λ y. true≠false y (sym eh ∙ f); other = λ _ j. e .none j }
 
-pub ruleset transitive-laws = (transitive-member, transitive-other)
+pub ruleset direct-laws = (transitive-member, direct-base, direct-other, transitive-other, direct-none, member-below)
 
 pub ruleset read-row-laws = (read-automatic, read-plain, read-none)
 
@@ -277,49 +293,80 @@ module _ (g : List ℕ) (i : ℕ) (n : length g ≡ 1024) (l : i < 256) where
 
 pub ruleset set-row-laws = (set-row-is, room-1, room-2, room-3)
 
--- the rows below k are set
-pub record GraphAt (s t : List ℕ) (n : ℕ) (ws g : List ℕ) (k : ℕ) : Type 0 where
-  pub within : k ≤ 256
-  pub long : length g ≡ 1024
-  pub so-far : (i : ℕ) → i < k → (j : ℕ) → edge g i j ≡ transitiveAt (tableNames s t n) ws (holds ws i) (descriptorOf (blockAt s t i)) j
-
-pub graph-start : (s t : List ℕ) (n : ℕ) (ws g : List ℕ) → length g ≡ 1024 → GraphAt s t n ws g 0
-graph-start s t n ws g l = record { within = omega arith; long = l; so-far = λ i z. absurd (omega arith) }
-
 below-next : (k i : ℕ) → i < k + 1 → {X : Type 0} → (i ≡ k → X) → ((i ≡ k → ⊥) → i < k → X) → X
 below-next k i h f g = by (eqb i k) (λ q. f (eqb-true i k q)) (λ q. let ne : i ≡ k → ⊥ = eqb-false i k q in
     ⊎-elim (λ (e : i ≡ k). f e) (λ l. g ne l) (eq-or-lt-of-le (omega arith)))
 
-module _ (s t : List ℕ) (n : ℕ) (ws g : List ℕ) (k : ℕ) (h : GraphAt s t n ws g k) where
-  pub graph-next : (row after : List ℕ) → k < 256 → length after ≡ length g
-      → Holding row (transitiveAt (tableNames s t n) ws (holds ws k) (descriptorOf (blockAt s t k))) → RowSet g k row after → GraphAt s t n ws after (k + 1)
-  graph-next row after l m w r = record {
+-- the rows below k are as wanted
+pub record SetAt (want : ℕ → ℕ → Bool) (g : List ℕ) (k : ℕ) : Type 0 where
+  pub within : k ≤ 256
+  pub long : length g ≡ 1024
+  pub so-far : (i : ℕ) → i < k → (j : ℕ) → edge g i j ≡ want i j
+
+module _ (want : ℕ → ℕ → Bool) (g : List ℕ) where
+  set-start : length g ≡ 1024 → SetAt want g 0
+  set-start l = record { within = omega arith; long = l; so-far = λ i z. absurd (omega arith) }
+
+  set-next : (k : ℕ) → SetAt want g k → (row after : List ℕ) → k < 256 → length after ≡ length g → Holding row (want k) → RowSet g k row after → SetAt want after (k + 1)
+  set-next k h row after l m w r = record {
     within = omega arith;
     long = m ∙ h .long;
     so-far = λ i z j. below-next k i z
-        (λ e. subst (λ (x : ℕ). edge after x j ≡ transitiveAt (tableNames s t n) ws (holds ws x) (descriptorOf (blockAt s t x)) j) (sym e) (r .here j ∙ w .each j))
+        (λ e. subst (λ (x : ℕ). edge after x j ≡ want x j) (sym e) (r .here j ∙ w .each j))
         (λ ne b. r .others i j ne ∙ h .so-far i b j);
   }
 
-  pub graph-end : length ws ≡ 4 → 256 ≤ k → TransitiveGraph s t n ws g
-  unfolding transitiveAt
-  graph-end m l = record {
-    each = λ i j. by (ltb i 256)
-        (λ q. h .so-far i (omega (arith, ltb-true i 256 q)) j)
-        (λ q. let o : 256 ≤ i = ltb-false i 256 q in edge-out g i j (h .long) o ∙ rw (holds-out ws i m o));
-  }
+  -- nothing is wanted from 256 on
+  set-end : (k : ℕ) → SetAt want g k → 256 ≤ k → ((i j : ℕ) → 256 ≤ i → want i j ≡ false) → (i j : ℕ) → edge g i j ≡ want i j
+  set-end k h l z i j = by (ltb i 256)
+      (λ q. h .so-far i (omega (arith, ltb-true i 256 q)) j)
+      (λ q. let o : 256 ≤ i = ltb-false i 256 q in edge-out g i j (h .long) o ∙ sym (z i j o))
 
-pub ruleset graph-laws = (graph-start, graph-next, graph-end)
+-- what row i is to hold
+abbrev pub transitiveRow : List ℕ → List ℕ → ℕ → List ℕ → ℕ → ℕ → Bool
+transitiveRow s t n ws i = transitiveAt (tableNames s t n) ws (holds ws i) (descriptorOf (blockAt s t i))
+
+abbrev pub directRow : List ℕ → List ℕ → ℕ → List ℕ → ℕ → ℕ → Bool
+directRow s t n ws i = directFrom (tableNames s t n) ws (holds ws i) (descriptorOf (blockAt s t i))
+
+pub record DirectAt (s t : List ℕ) (n : ℕ) (ws g reads : List ℕ) (k : ℕ) : Type 0 where
+  pub graph : SetAt (transitiveRow s t n ws) g k
+  pub rows : SetAt (directRow s t n ws) reads k
+
+module _ (s t : List ℕ) (n : ℕ) (ws g reads : List ℕ) where
+  pub direct-start : length g ≡ 1024 → length reads ≡ 1024 → DirectAt s t n ws g reads 0
+  direct-start l m = record { graph = set-start (transitiveRow s t n ws) g l; rows = set-start (directRow s t n ws) reads m }
+
+  module _ (k : ℕ) (h : DirectAt s t n ws g reads k) where
+    pub direct-next : (transitive all g₂ reads₂ : List ℕ) → k < 256 → length g₂ ≡ length g → length reads₂ ≡ length reads
+        → Holding transitive (transitiveRow s t n ws k) → Holding all (directRow s t n ws k)
+        → RowSet g k transitive g₂ → RowSet reads k all reads₂ → DirectAt s t n ws g₂ reads₂ (k + 1)
+    direct-next transitive all g₂ reads₂ l m o w v x y = record {
+      graph = set-next (transitiveRow s t n ws) g k (h .graph) transitive g₂ l m w x;
+      rows = set-next (directRow s t n ws) reads k (h .rows) all reads₂ l o v y;
+    }
+
+    pub graph-end : length ws ≡ 4 → 256 ≤ k → TransitiveGraph s t n ws g
+    unfolding transitiveAt
+    graph-end m l = record { each = set-end (transitiveRow s t n ws) g k (h .graph) l (λ i j o. rw (holds-out ws i m o)) }
+
+    pub direct-end : length ws ≡ 4 → 256 ≤ k → DirectRows s t n ws reads
+    unfolding directFrom
+    direct-end m l = record { each = set-end (directRow s t n ws) reads k (h .rows) l (λ i j o. rw (holds-out ws i m o)) }
+
+pub ruleset set-direct-laws = (direct-start, direct-next, graph-end, direct-end)
 
 -- ---- the rows of what is read
 
+-- the rows below k are those, and the others are still what is read directly
 pub record RowsAt (s t : List ℕ) (n : ℕ) (ws g reads : List ℕ) (k : ℕ) : Type 0 where
   pub within : k ≤ 256
   pub long : length reads ≡ 1024
   pub so-far : (i : ℕ) → i < k → ModuleReads (tableNames s t n) ws g (descriptorOf (blockAt s t i)) i (λ j. edge reads i j)
+  pub still : (i j : ℕ) → k ≤ i → edge reads i j ≡ directRow s t n ws i j
 
-pub rows-start : (s t : List ℕ) (n : ℕ) (ws g reads : List ℕ) → length reads ≡ 1024 → RowsAt s t n ws g reads 0
-rows-start s t n ws g reads l = record { within = omega arith; long = l; so-far = λ i z. absurd (omega arith) }
+pub rows-start : (s t : List ℕ) (n : ℕ) (ws g reads : List ℕ) → length reads ≡ 1024 → DirectRows s t n ws reads → RowsAt s t n ws g reads 0
+rows-start s t n ws g reads l d = record { within = omega arith; long = l; so-far = λ i z. absurd (omega arith); still = λ i j _. d .each i j }
 
 same-reads : (l : List Name) (ws g : List ℕ) (m : Descriptor) (p : ℕ) (a b : ℕ → Bool) → ((j : ℕ) → b j ≡ a j) → ModuleReads l ws g m p a → ModuleReads l ws g m p b
 same-reads l ws g m p a b e h = record {
@@ -334,6 +381,9 @@ same-reads l ws g m p a b e h = record {
 }
 
 module _ (s t : List ℕ) (n : ℕ) (ws g reads : List ℕ) (k : ℕ) (h : RowsAt s t n ws g reads k) where
+  pub rows-direct : (row : List ℕ) → Successors reads k row → Holding row (directRow s t n ws k)
+  rows-direct row r = record { each = λ j. r .each j ∙ h .still k j (omega arith) }
+
   pub rows-next : (row after : List ℕ) → k < 256 → length after ≡ length reads
       → ModuleReads (tableNames s t n) ws g (descriptorOf (blockAt s t k)) k (holds row) → RowSet reads k row after → RowsAt s t n ws g after (k + 1)
   rows-next row after l m w r = record {
@@ -343,6 +393,7 @@ module _ (s t : List ℕ) (n : ℕ) (ws g reads : List ℕ) (k : ℕ) (h : RowsA
         (λ e. subst (λ (x : ℕ). ModuleReads (tableNames s t n) ws g (descriptorOf (blockAt s t x)) x (λ j. edge after x j)) (sym e)
         (same-reads (tableNames s t n) ws g (descriptorOf (blockAt s t k)) k (holds row) (λ j. edge after k j) (λ j. r .here j) w))
         (λ ne b. same-reads (tableNames s t n) ws g (descriptorOf (blockAt s t i)) i (λ j. edge reads i j) (λ j. edge after i j) (λ j. r .others i j ne) (h .so-far i b));
+    still = λ i j z. r .others i j (λ e. omega arith) ∙ h .still i j (omega arith);
   }
 
   pub rows-end : length ws ≡ 4 → 256 ≤ k → ReadRows s t n ws g reads
@@ -355,28 +406,24 @@ module _ (s t : List ℕ) (n : ℕ) (ws g reads : List ℕ) (k : ℕ) (h : RowsA
         });
   }
 
-pub ruleset rows-laws = (rows-start, rows-next, rows-end)
+pub ruleset rows-laws = (rows-start, rows-direct, rows-next, rows-end)
 
 -- ---- AR
 
-module _ (source : Found) (below : Below source) (target : Name) (row : List ℕ) (t : Bool) (et : t ≡ sameBytes target allUnnamed) where
-  pub unnamed-at : (i : ℕ) (after : List ℕ) → t ≡ true → source ≡ At i → Added row i after → WithMore row (unnamedFrom source target) after
-  unfolding unnamedFrom isAt
-  unnamed-at i after y e a = record { each = λ j. a .below (at-below source i below e) j ∙ rw (e, ← et, y) (ap (λ (b : Bool). holds row j || b) (ends (eqb j i))) }
+module _ (source : Found) (target : Name) (row : List ℕ) (t : Bool) (et : t ≡ sameBytes target allUnnamed) where
+  pub unnamed-found : (after : List ℕ) → t ≡ true → WithMore row (isAt source) after → WithMore row (unnamedFrom source target) after
+  unfolding unnamedFrom
+  unnamed-found after y w = record { each = λ j. w .each j ∙ rw (← et, y) (ap (λ (b : Bool). holds row j || b) (ends (isAt source j))) }
     where
       ends : (b : Bool) → b ≡ (b && true)
       ends true = refl
       ends false = refl
 
-  pub unnamed-nothing : source ≡ Nothing → WithMore row (unnamedFrom source target) row
-  unfolding unnamedFrom isAt
-  unnamed-nothing e = record { each = λ j. rw e (sym (or-false (holds row j))) }
-
   pub unnamed-other : t ≡ false → WithMore row (unnamedFrom source target) row
   unfolding unnamedFrom
   unnamed-other f = record { each = λ j. rw (← et, f, and-false (isAt source j)) (sym (or-false (holds row j))) }
 
-pub ruleset unnamed-laws = (unnamed-at, unnamed-nothing, unnamed-other)
+pub ruleset unnamed-laws = (unnamed-found, unnamed-other)
 
 module _ (source target : Found) (before : List ℕ) where
   pub edge-both : (i j : ℕ) (after : List ℕ) → Below source → Below target → source ≡ At i → target ≡ At j → AddedEdge before i j after → WithEdges before (edgeFrom source target) after

@@ -10,7 +10,7 @@ read-edges-spec =
     (λ c. search needs)
     (λ c κs. search needs)
     (λ c. search needs)
-    (λ c κs. search needs)
+    (λ c κs. (search needs, (search needs, search needs)))
     (λ c κs. search needs)
     (λ c. search needs)
     (λ c. search (read-edges-are, needs)))

@@ -12,7 +12,6 @@ read-row-spec =
     (λ c κs. search (read-row-laws, needs))
     (λ c κs. search (read-row-laws, needs))
     (λ c κs. search (read-row-laws, needs))
-    (λ c κs. search (read-row-laws, needs))
     (λ c. search (read-row-laws, needs))
     (λ c. search (read-row-laws, needs))
     (λ c κs. search (read-row-laws, needs))

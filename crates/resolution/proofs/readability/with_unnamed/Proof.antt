@@ -9,9 +9,6 @@ with-unnamed-spec =
     (tie.spec
     (λ c. search (unnamed-laws, needs))
     (λ c κs. search (unnamed-laws, needs))
-    (λ c. search (unnamed-laws, needs))
     (λ c κs. search (unnamed-laws, needs))
-    (λ c. search (unnamed-laws, needs))
-    (λ c. search (unnamed-laws, needs))
     (λ c. search (unnamed-laws, needs))
     (λ c. search (unnamed-laws, needs)))

@@ -1,0 +1,22 @@
+use Rattle.resolution.proofs.configuration.Laws.{row-of-in}
+use borrow.Author.Needs.{needs}
+use Rattle.resolution.proofs.readability.row_at.Statement.{statement}
+use Rattle.resolution.proofs.readability.row_at.Tie as tie
+
+pub row-at-spec : {M : Type 1} → statement M
+row-at-spec =
+    tie.close
+    (tie.spec
+    (λ c. search (row-of-in, needs))
+    (λ c. search (row-of-in, needs))
+    (λ c. search (row-of-in, needs))
+    (λ c. search (row-of-in, needs))
+    (λ c. search (row-of-in, needs))
+    (λ c. search (row-of-in, needs))
+    (λ c. search (row-of-in, needs))
+    (λ c. search (row-of-in, needs))
+    (λ c. search (row-of-in, needs))
+    (λ c. search (row-of-in, needs))
+    (λ c. search (row-of-in, needs))
+    (λ c. search (row-of-in, needs))
+    (λ c. search (row-of-in, needs)))

@@ -1,0 +1,30 @@
+use Prim.Native.Nat.{_-_}
+use borrow.Author.Needs.{needs}
+use Rattle.resolution.proofs.readability.Laws.{DirectAt, set-direct-laws}
+use Rattle.resolution.proofs.readability.set_direct.Statement.{statement}
+use Rattle.resolution.proofs.readability.set_direct.Tie as tie
+
+abbrev Inv-loop : tie.InvT-loop
+Inv-loop set starts count index members graph₀ reads₀ base k₀ graph reads k = DirectAt set starts count (members .words) graph reads k
+
+abbrev μ-loop : tie.MeasureT-loop
+μ-loop set starts count index members graph₀ reads₀ base k₀ graph reads k = 256 - k
+
+pub set-direct-spec : {M : Type 1} → statement M
+set-direct-spec =
+    tie.close
+    (tie.spec
+    Inv-loop
+    μ-loop
+    (λ c. search (set-direct-laws, needs))
+    (λ c κs. search (set-direct-laws, needs))
+    (λ c. search (set-direct-laws, needs))
+    (λ c κs. search (set-direct-laws, needs))
+    (λ c κs. search (set-direct-laws, needs))
+    (λ c κs. search (set-direct-laws, needs))
+    (λ c. search (set-direct-laws, needs))
+    (λ c. search (set-direct-laws, needs))
+    (λ c. search (set-direct-laws, c .before .before .before .before .before .before .before .before .before .before .loop .inv, needs))
+    (λ c. search (set-direct-laws, needs))
+    (λ c. search (set-direct-laws, needs))
+    (λ c. search (set-direct-laws, needs)))
