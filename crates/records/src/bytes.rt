@@ -4,7 +4,7 @@ ghost use Prim.Native.Nat.{_+_, _<_, _≤_};
 ghost use mathlib.Core.Bool.{cond, _&&_};
 ghost use lib.ListN.{length, getD, take, drop};
 ghost use lib.Dec.{eqb, ltb};
-ghost use Rattle.records.specs.Bytes.{sameBytes, beforeBytes, u16At, DifferAt};
+ghost use Rattle.records.specs.Bytes.{sameBytes, beforeBytes, u16At, AgreeAt, DifferAt};
 
 // Whether `equal` holds and a is b.
 fn and_equal(equal: bool, a: u8, b: u8) -> bool
@@ -77,13 +77,30 @@ fn smaller(a: usize, b: usize) -> usize
     b
 }
 
+// A place up to which a and b agree, not past n: eight bytes are taken at a time, as long as they are the same.
+fn agree(a: &[u8], b: &[u8], n: usize) -> usize
+    requires { ⌜ n ≤ length (now a) ⌝ }
+    requires { ⌜ n ≤ length (now b) ⌝ }
+    ensures { λ r. ⌜ AgreeAt (now (a .entry)) (now (b .entry)) n r ⌝ }
+{
+    let mut i: usize = 0;
+    while 8 <= n - i {
+        if same_in(a, b, i, 8) {
+            i += 8;
+        } else {
+            return i;
+        }
+    }
+    i
+}
+
 // The first place below n where a and b differ, n where there is none.
 fn differ(a: &[u8], b: &[u8], n: usize) -> usize
     requires { ⌜ n ≤ length (now a) ⌝ }
     requires { ⌜ n ≤ length (now b) ⌝ }
     ensures { λ r. ⌜ DifferAt (now (a .entry)) (now (b .entry)) n r ⌝ }
 {
-    let mut i: usize = 0;
+    let mut i = agree(a, b, n);
     while i < n {
         if a[i] != b[i] {
             return i;

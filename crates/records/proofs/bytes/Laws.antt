@@ -1,5 +1,5 @@
 -- Laws of the definitions of specs/Bytes.antt, and what each turn of the loops over them shows.
-use Prim.Native.Nat.{ℕ, suc, _+_, _*_, _-_, _≤_, _<_}
+use Prim.Native.Nat.{ℕ, zero, suc, _+_, _*_, _-_, _≤_, _<_}
 use mathlib.Core.Path.{_≡_, refl, sym, _∙_, ap, ap₂}
 use mathlib.Core.List.{List, [], _∷_, _++_}
 use mathlib.Core.Bool.{Bool, true, false, cond, _&&_}
@@ -10,9 +10,9 @@ use native.Mathlib.Nat.{le-of-lt, add-assoc}
 use lib.Seq.{drop-cons, drop-drop, take-all, take-add, take-length, length-take-le, getD-drop}
 use lib.Dec.{ltb, eqb}
 use borrow.Author.Tests.{eq-eqb, ne-eqb, lt-ltb, le-ltb, eqb-true, ltb-true, ltb-false}
-use Rattle.records.specs.Bytes.{sameBytes, beforeBytes, u16At, DifferAt}
+use Rattle.records.specs.Bytes.{sameBytes, beforeBytes, u16At, AgreeAt, DifferAt}
 use Rattle.records.proofs.bytes.Parts.{Splits, PartsAt, cover, parts-more, parts-done}
-use Rattle.records.proofs.Logic.{clash, and-true, and-false, and-assoc, or-false}
+use Rattle.records.proofs.Logic.{clash, and-left, and-right, and-true, and-false, and-assoc, or-false}
 
 -- ---- parts
 
@@ -189,12 +189,17 @@ same-refl (x ∷ xs) = rw (eq-eqb x x refl) (same-refl xs)
 
 -- ---- byte order
 
--- the strings agree before i
-pub record AgreeAt (a b : List ℕ) (n i : ℕ) : Type 0 where
-  pub in-a : n ≤ length a
-  pub in-b : n ≤ length b
-  pub within : i ≤ n
-  pub left : beforeBytes a b ≡ beforeBytes (drop i a) (drop i b)
+-- bytes in front that are the same decide nothing
+before-skip : (k : ℕ) (a b : List ℕ) → k ≤ length a → k ≤ length b → sameBytes (take k a) (take k b) ≡ true → beforeBytes a b ≡ beforeBytes (drop k a) (drop k b)
+unfolding sameBytes beforeBytes
+before-skip zero a b la lb e = refl
+before-skip (suc k) [] b la lb e = absurd (omega (arith, la))
+before-skip (suc k) (x ∷ xs) [] la lb e = absurd (omega (arith, lb))
+before-skip (suc k) (x ∷ xs) (y ∷ ys) la lb e =
+    let xy : eqb x y ≡ true = and-left (eqb x y) (sameBytes (take k xs) (take k ys)) e in
+    let rest : sameBytes (take k xs) (take k ys) ≡ true = and-right (eqb x y) (sameBytes (take k xs) (take k ys)) e in
+    let ge : y ≤ x = omega (arith, eqb-true x y xy) in
+    rw (le-ltb x y ge, xy) (before-skip k xs ys (omega (arith, la)) (omega (arith, lb)) rest)
 
 pub differ-start : (a b : List ℕ) (n : ℕ) → n ≤ length a → n ≤ length b → AgreeAt a b n 0
 differ-start a b n la lb = record { in-a = la; in-b = lb; within = omega arith; left = refl }
@@ -224,6 +229,25 @@ module _ {a b : List ℕ} {n i : ℕ} (h : AgreeAt a b n i) where
   differ-end l =
       let e : i ≡ n = omega (arith, h .within) in
       record { within = omega arith; left = h .left ∙ rw e; apart = λ m. absurd (omega (arith, m)) }
+
+  pub agree-in-a : 8 ≤ n - i → i + 8 ≤ length a
+  agree-in-a l = omega (arith, l, h .in-a)
+
+  pub agree-in-b : 8 ≤ n - i → i + 8 ≤ length b
+  agree-in-b l = omega (arith, l, h .in-b)
+
+  pub agree-next : 8 ≤ n - i → (r : Bool) → r ≡ sameBytes (take 8 (drop i a)) (take 8 (drop i b)) → r ≡ true → AgreeAt a b n (i + 8)
+  agree-next l r er e = record {
+    in-a = h .in-a;
+    in-b = h .in-b;
+    within = omega (arith, l);
+    left = h .left ∙ before-skip 8 (drop i a) (drop i b) (simp length-drop (omega (arith, l, h .in-a))) (simp length-drop (omega (arith, l, h .in-b))) (sym er ∙ e) ∙ rw (drop-drop 8 i a, drop-drop 8 i b);
+  }
+
+  pub agree-less : 8 ≤ n - i → n - (i + 8) < n - i
+  agree-less l = omega (arith, l)
+
+pub ruleset agree-laws = (differ-start, agree-in-a, agree-in-b, agree-next, agree-less)
 
 pub ruleset differ-laws = (differ-start, differ-in-a, differ-in-b, differ-here, differ-next, differ-end)
 

@@ -60,11 +60,11 @@ module _ (s source b n : List ℕ) (to start len : ℕ) (ec : source ≡ take to
       ∙ ap (take (getD b 0 0))
       (ap (drop 1) eb ∙ drop-first len (drop start source) ∙ ap (take (len - 1)) (drop-drop 1 start source ∙ ap (drop (start + 1)) ec ∙ drop-take (start + 1) to s))
 
-  name-short : length n ≤ length s
+  pub name-short : length n ≤ length s
   name-short =
       omega (arith, ap length part-of, take-short (getD b 0 0) (take (len - 1) (take (to - (start + 1)) (drop (start + 1) s))), take-short (len - 1) (take (to - (start + 1)) (drop (start + 1) s)), take-short (to - (start + 1)) (drop (start + 1) s), length-drop (start + 1) s)
 
-  entry-name : length s ≤ 65535 → nameIn s ((start + 1) * 65536 + length n) ≡ n
+  pub entry-name : length s ≤ 65535 → nameIn s ((start + 1) * 65536 + length n) ≡ n
   entry-name h =
       entry-is s n start (omega (arith, name-short)) (rw (← part-of) at (take-prefix (getD b 0 0) (len - 1) (to - (start + 1)) (drop (start + 1) s)))
 

@@ -19,6 +19,7 @@ use Rattle.records.specs.declared.record.Next.the-variants as Next
 use Rattle.records.specs.declared.record.Kind.the-variants as Kind
 use Rattle.records.proofs.bytes.Laws.{same-eq}
 use Rattle.records.proofs.bytes.Order.{before-irrefl, before-trans, before-total, before-one-way}
+use Rattle.records.proofs.order.Packages.{name-short as short, entry-name as entry}
 use Rattle.records.proofs.order.Laws.{drop-take}
 use Rattle.records.proofs.order.Ordered.{ordered-is, ordered-keeps, ordered-adds-none}
 use Rattle.records.proofs.record.Bodies.{bodies-next, bodies-end, next-room, next-later, next-less, body-room}
@@ -110,45 +111,23 @@ turned true true m best rest = lesser-both best m (least rest) ∙ go (beforeByt
 
 -- ---- the entry of a package of a block
 
-take-prefix : (k j m : ℕ) (x : List ℕ) → take (length (take k (take j (take m x)))) x ≡ take k (take j (take m x))
-take-prefix zero j m x = refl
-take-prefix (suc k) zero m x = refl
-take-prefix (suc k) (suc j) zero x = refl
-take-prefix (suc k) (suc j) (suc m) [] = refl
-take-prefix (suc k) (suc j) (suc m) (y ∷ x) = ap (λ (l : List ℕ). y ∷ l) (take-prefix k j m x)
-
 pub take-few : (n : ℕ) (l : List ℕ) → length (take n l) ≤ length l
 take-few zero l = omega arith
 take-few (suc n) [] = omega arith
 take-few (suc n) (x ∷ l) = omega (arith, take-few n l)
 
+-- the block is a part of the set's first bytes
 module _ (set : List ℕ) (size from start len : ℕ) (x m : List ℕ) (ex : x ≡ take len (drop start (take size (drop from set)))) (em : m ≡ nameOf x) where
-  part-of : m ≡ take (getD x 0 0) (take (len - 1) (take (size - start - 1) (drop (from + start + 1) set)))
-  unfolding nameOf
-  part-of =
-      em ∙ ap (take (getD x 0 0)) (ap (drop 1) (ex ∙ ap (take len) (drop-take start size (drop from set)))
-      ∙ drop-take 1 len (take (size - start) (drop start (drop from set)))
-      ∙ ap (take (len - 1)) (drop-take 1 (size - start) (drop start (drop from set))
-      ∙ ap (take (size - start - 1)) (ap (drop 1) (drop-drop start from set) ∙ drop-drop 1 (from + start) set)))
+  in-front : x ≡ take len (drop (from + start) (take (from + size) set))
+  in-front =
+      let e : from + size - from ≡ size = omega arith in
+      ex ∙ ap (take len) (ap (λ (n : ℕ). drop start (take n (drop from set))) (sym e) ∙ ap (drop start) (sym (drop-take from (from + size) set)) ∙ drop-drop start from (take (from + size) set))
 
   name-short : length m ≤ length set
-  name-short =
-      omega (
-        arith,
-        ap length part-of,
-        take-few (getD x 0 0) (take (len - 1) (take (size - start - 1) (drop (from + start + 1) set))),
-        take-few (len - 1) (take (size - start - 1) (drop (from + start + 1) set)),
-        take-few (size - start - 1) (drop (from + start + 1) set),
-        length-drop (from + start + 1) set,
-      )
+  name-short = short set (take (from + size) set) x m (from + size) (from + start) len refl in-front em
 
   entry-name : length set ≤ 65535 → nameIn set ((from + start + 1) * 65536 + length m) ≡ m
-  unfolding nameIn
-  entry-name h =
-      let l : length m ≤ length set = name-short in
-      let a : ((from + start + 1) * 65536 + length m) / 65536 ≡ from + start + 1 = omega arith in
-      let r : ((from + start + 1) * 65536 + length m) % 65536 ≡ length m = omega arith in
-      rw (a, r) (rw (← part-of) at (take-prefix (getD x 0 0) (len - 1) (size - start - 1) (drop (from + start + 1) set)))
+  entry-name = entry set (take (from + size) set) x m (from + size) (from + start) len refl in-front em
 
 -- ---- the walk over a module's packages
 

@@ -1,7 +1,7 @@
 -- The tables of names that records of modules tell.
-use Prim.Native.Nat.{ℕ, zero, suc, _+_, _-_, _*_, _/_, _%_, _^_, _≤_, _<_}
+use Prim.Native.Nat.{ℕ, zero, suc, _+_, _-_, _*_, _^_, _≤_, _<_}
 use mathlib.Core.Path.{_≡_, refl, sym, _∙_, ap}
-use mathlib.Core.Bool.{Bool, true, false, _||_}
+use mathlib.Core.Bool.{Bool, true, false, _||_, or-false, or-assoc, or-comm}
 use mathlib.Core.List.{List, [], _∷_, map}
 use native.Mathlib.Omega.{arith}
 use lib.Dec.{ltb}
@@ -22,6 +22,7 @@ use Rattle.records.specs.declared.record.Next.the-variants.{Body, Nothing}
 use Rattle.records.proofs.Logic.{clash}
 use Rattle.records.proofs.order.Laws.{drop-take}
 use Rattle.records.proofs.order.Ordered.{insert-mem}
+use Rattle.records.proofs.order.Packages.{name-short, entry-name}
 use Rattle.records.proofs.record.Laws.{records-end}
 use Rattle.records.proofs.record.Bodies.{bodies-next, bodies-end, next-less, body-room}
 use Rattle.resolution.specs.Lists.{Name, any}
@@ -32,54 +33,6 @@ use Rattle.resolution.specs.declared.table.Listed.{Listed}
 use Rattle.resolution.proofs.ResolverRun.{any-same}
 use Rattle.resolution.proofs.modules.Laws.{rest-more, rest-none}
 use Rattle.resolution.proofs.modules.Shared.{take-few}
-
--- ---- tests
-
-pub or-none : (a : Bool) → (a || false) ≡ a
-or-none true = refl
-or-none false = refl
-
-pub or-back : (a b c : Bool) → ((a || b) || c) ≡ (a || (b || c))
-or-back true b c = refl
-or-back false b c = refl
-
-or-turn : (a b : Bool) → (a || b) ≡ (b || a)
-or-turn true true = refl
-or-turn true false = refl
-or-turn false true = refl
-or-turn false false = refl
-
--- ---- the entry of a name
-
-take-front : (k m j : ℕ) (x : List ℕ) → take (length (take k (take m (take j x)))) x ≡ take k (take m (take j x))
-take-front zero m j x = refl
-take-front (suc k) zero j x = refl
-take-front (suc k) (suc m) zero x = refl
-take-front (suc k) (suc m) (suc j) [] = refl
-take-front (suc k) (suc m) (suc j) (y ∷ x) = ap (λ (l : List ℕ). y ∷ l) (take-front k m j x)
-
--- a name in a record of the first `to` bytes
-module _ (set source b n : List ℕ) (to start len : ℕ) (es : source ≡ take to set) (eb : b ≡ take len (drop start source)) (en : n ≡ nameOf b) where
-  part-of : n ≡ take (getD b 0 0) (take (len - 1) (take (to - (start + 1)) (drop (start + 1) set)))
-  unfolding nameOf
-  part-of =
-      en ∙ ap (take (getD b 0 0))
-      (ap (drop 1) eb ∙ drop-take 1 len (drop start source)
-      ∙ ap (take (len - 1)) (drop-drop 1 start source ∙ ap (drop (start + 1)) es ∙ drop-take (start + 1) to set))
-
-  pub name-short : length n ≤ length set
-  name-short =
-      let x : List ℕ = drop (start + 1) set in
-      let y : List ℕ = take (to - (start + 1)) x in
-      omega (arith, ap length part-of, take-few (getD b 0 0) (take (len - 1) y), take-few (len - 1) y, take-few (to - (start + 1)) x, length-drop (start + 1) set)
-
-  pub entry-name : length set ≤ 65535 → nameIn set ((start + 1) * 65536 + length n) ≡ n
-  unfolding nameIn
-  entry-name h =
-      let l : length n ≤ length set = name-short in
-      let a : ((start + 1) * 65536 + length n) / 65536 ≡ start + 1 = omega arith in
-      let r : ((start + 1) * 65536 + length n) % 65536 ≡ length n = omega arith in
-      rw (a, r) (rw (← part-of) at (take-front (getD b 0 0) (len - 1) (to - (start + 1)) (drop (start + 1) set)))
 
 -- ---- the kind of the records
 
@@ -120,7 +73,7 @@ module _ (set : List ℕ) (to start len : ℕ) (source b : List ℕ) (es : sourc
     sorted = i .sorted;
     told = λ x.
         rw (i .names-are, entry, insert-mem x n (toldIn set table count), ← body-is, told x)
-        (or-turn (sameBytes n x) (memName x (toldIn set table count)));
+        (or-comm (sameBytes n x) (memName x (toldIn set table count)));
   }
 
   -- a service
@@ -147,7 +100,7 @@ module _ (set : List ℕ) (to start len : ℕ) (source b : List ℕ) (es : sourc
     put-static e table count l o = record {
       room = omega (arith, l);
       sorted = o;
-      told = λ x. sym (rw (← body-is, k, ← et, e) (or-none (memName x (toldIn set table count))));
+      told = λ x. sym (rw (← body-is, k, ← et, e) (or-false (memName x (toldIn set table count))));
     }
 
     module _ (h : length set ≤ 65535) (l : start ≤ 65535) (n : List ℕ) (en : n ≡ requirementOf b .name) where
@@ -232,7 +185,7 @@ module _ (needed : Bool) (kind : Kind) (set source : List ℕ) (from to : ℕ) (
             left = λ x.
                 h .left x
                 ∙ rw (tells-next x, i .told x, body-is)
-                (sym (or-back (memName x (toldIn set table count)) (tells needed x b) (tellsIn needed (drop (next .at) source) x)));
+                (sym (or-assoc (memName x (toldIn set table count)) (tells needed x b) (tellsIn needed (drop (next .at) source) x)));
           }
 
     pub add-done : r ≡ Nothing → NamesAdded needed set (drop from (take to set)) before s table (record { count = count; known = s .known })
@@ -243,7 +196,7 @@ module _ (needed : Bool) (kind : Kind) (set source : List ℕ) (from to : ℕ) (
       was = λ z. z;
       told = λ z x.
           let k : tellsIn needed (drop at source) x ≡ false = rw (← h .kind-is, bodies-end kind source at r er e) in
-          sym (or-none (memName x (toldIn set table count)))
+          sym (or-false (memName x (toldIn set table count)))
           ∙ sym (ap (λ (l : List ℕ). memName x (toldIn set before (s .count)) || tellsIn needed (drop from l) x) (sym (h .source-is)) ∙ h .left x
           ∙ ap (λ (c : Bool). memName x (toldIn set table count) || c) k);
     }
@@ -282,7 +235,7 @@ module _ (needed : Bool) (set starts order : List ℕ) (from to : ℕ) where
       left = λ z x.
           let cut : drop a (take b set) ≡ blockAt set starts (getD order k 0) = rw (ea, eb) (drop-take (getD starts (getD order k 0) 0) (getD starts (getD order k 0 + 1) 0) set) in
           rw (m .told z x, cut)
-          (or-back (memName x (toldIn set table (s .count))) (tellsIn needed (blockAt set starts (getD order k 0)) x) (tellsAt needed set starts (drop (k + 1) (take to order)) x)
+          (or-assoc (memName x (toldIn set table (s .count))) (tellsIn needed (blockAt set starts (getD order k 0)) x) (tellsAt needed set starts (drop (k + 1) (take to order)) x)
           ∙ ap (λ (ps : List ℕ). memName x (toldIn set table (s .count)) || tellsAt needed set starts ps x) (sym (rest-more order to k l (order-index l)))
           ∙ h .left (m .was z) x);
     }
@@ -293,7 +246,7 @@ module _ (needed : Bool) (set starts order : List ℕ) (from to : ℕ) where
       room = h .room;
       sorted = h .sorted;
       told = λ z x.
-          sym (or-none (memName x (toldIn set table (s .count))))
+          sym (or-false (memName x (toldIn set table (s .count))))
           ∙ ap (λ (ps : List ℕ). memName x (toldIn set table (s .count)) || tellsAt needed set starts ps x) (sym (rest-none order to k l))
           ∙ h .left z x;
     }

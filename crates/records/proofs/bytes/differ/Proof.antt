@@ -1,6 +1,7 @@
 use Prim.Native.Nat.{_-_}
 use borrow.Author.Needs.{needs}
-use Rattle.records.proofs.bytes.Laws.{AgreeAt, differ-laws}
+use Rattle.records.specs.Bytes.{AgreeAt}
+use Rattle.records.proofs.bytes.Laws.{differ-laws}
 use Rattle.records.proofs.bytes.differ.Statement.{statement}
 use Rattle.records.proofs.bytes.differ.Tie as tie
 
@@ -16,6 +17,7 @@ differ-spec =
     (tie.spec
     Inv-loop
     μ-loop
+    (λ c κs. search (differ-laws, needs))
     (λ c. search (differ-laws, needs))
     (λ c. search (differ-laws, needs))
     (λ c. search (differ-laws, needs))
