@@ -184,7 +184,8 @@ fn provide(
     line
 }
 
-// The providers of a round are queued. Those of services that the first `bound` modules use are there.
+// The providers of a round are queued. Those of services that the first `bound` modules use are there; and nothing is to be done where
+// every module of the set is.
 fn bind(
     set: &[u8],
     starts: &[usize],
@@ -197,6 +198,9 @@ fn bind(
     requires { ⌜ Unbound phase (now set) (now starts) (now order) bound q ⌝ }
     ensures { λ r. ⌜ Moved (phase .count) (now (order .exit)) r (provideAt (inputsOf (now (set .entry)) [] (now (starts .entry)) [] phase) (lineAt (now (order .entry)) q)) ⌝ }
 {
+    if phase.count == q.tail {
+        return q;
+    }
     let services = order_names(set, starts, order, bound, q.head, false, table);
     provide(set, starts, phase, order, bound, table, services, q)
 }
@@ -284,8 +288,43 @@ fn rounds(
     line
 }
 
-// The rounds, with a table for the services of a round.
-fn all_rounds(
+// The rounds of a small set, with a table for the services of a round.
+fn few_rounds(
+    set: &[u8],
+    request: &[u8],
+    starts: &[usize],
+    old: &[usize],
+    phase: Phase,
+    index: &[u16],
+    names: &[usize],
+    needed: &[usize],
+    order: &mut [usize],
+    packages: &mut [u64],
+    q: Queue,
+) -> Queue
+    requires { ⌜ Tables (now set) (now request) (now starts) (now old) phase (now index) (now names) (now needed) ⌝ }
+    requires { ⌜ Running (phase .count) (now set) (now starts) (now order) (now packages) q ⌝ }
+    ensures { λ r. ⌜ Moved (phase .count) (now (order .exit)) r (roundsAt (inputsOf (now (set .entry)) (now (request .entry)) (now (starts .entry)) (now (old .entry)) phase) (suc (phase .count)) (lineAt (now (order .entry)) q)) ⌝ }
+{
+    let mut table = [0usize; 1024];
+    rounds(
+        set,
+        request,
+        starts,
+        old,
+        phase,
+        index,
+        names,
+        needed,
+        order,
+        packages,
+        &mut table,
+        q,
+    )
+}
+
+// The same of a large one.
+fn many_rounds(
     set: &[u8],
     request: &[u8],
     starts: &[usize],
@@ -315,6 +354,54 @@ fn all_rounds(
         order,
         packages,
         &mut table,
+        q,
+    )
+}
+
+// The rounds. A set of up to 4,096 bytes has room for fewer than 1,024 services.
+fn all_rounds(
+    set: &[u8],
+    request: &[u8],
+    starts: &[usize],
+    old: &[usize],
+    phase: Phase,
+    index: &[u16],
+    names: &[usize],
+    needed: &[usize],
+    order: &mut [usize],
+    packages: &mut [u64],
+    q: Queue,
+) -> Queue
+    requires { ⌜ Tables (now set) (now request) (now starts) (now old) phase (now index) (now names) (now needed) ⌝ }
+    requires { ⌜ Running (phase .count) (now set) (now starts) (now order) (now packages) q ⌝ }
+    ensures { λ r. ⌜ Moved (phase .count) (now (order .exit)) r (roundsAt (inputsOf (now (set .entry)) (now (request .entry)) (now (starts .entry)) (now (old .entry)) phase) (suc (phase .count)) (lineAt (now (order .entry)) q)) ⌝ }
+{
+    if set.len() <= 4096 {
+        return few_rounds(
+            set,
+            request,
+            starts,
+            old,
+            phase,
+            index,
+            names,
+            needed,
+            order,
+            packages,
+            q,
+        );
+    }
+    many_rounds(
+        set,
+        request,
+        starts,
+        old,
+        phase,
+        index,
+        names,
+        needed,
+        order,
+        packages,
         q,
     )
 }

@@ -128,6 +128,11 @@ pick-same : (b : Bool) (l k : Line) → k ≡ l → pickLine b k l ≡ l
 pick-same true l k e = e
 pick-same false l k e = refl
 
+-- one that is there is not offered
+offered-there : (w : Inputs) (ps : List ℕ) (i : ℕ) (l : Line) → isOneOf i (l .order) ≡ true → offeredAt w ps i l ≡ l
+unfolding offeredAt
+offered-there w ps i l e = pick-same (isProviderAt w ps i) l (queued (Add i) l) (there i l e)
+
 pub longer-offered : (w : Inputs) (ps : List ℕ) (i : ℕ) (l : Line) → Longer l (offeredAt w ps i l)
 unfolding offeredAt
 longer-offered w ps i l = picked (isProviderAt w ps i)
@@ -159,8 +164,7 @@ offered-in w ps i l d e = ap (λ (b : Bool). isOneOf i (pickLine b (queued (Add 
 module _ (set starts order : List ℕ) (phase : Phase) (to i : ℕ) (q : Queue) where
   module _ (r : Bool) (er : r ≡ isOneOf i (take (q .tail) order)) where
     pub due-there : r ≡ true → offeredAt (inputsOf set [] starts [] phase) (take to order) i (lineAt order q) ≡ lineAt order q
-    unfolding offeredAt
-    due-there e = pick-same (isProviderAt (inputsOf set [] starts [] phase) (take to order) i) (lineAt order q) (queued (Add i) (lineAt order q)) (there i (lineAt order q) (unfold lineAt in sym er ∙ e))
+    due-there e = offered-there (inputsOf set [] starts [] phase) (take to order) i (lineAt order q) (unfold lineAt in sym er ∙ e)
 
     pub due-is : (from : ℕ) (table : List ℕ) (s : Listed) → Binding phase set starts order from to table s q → (b : Bool) → b ≡ isProviderAt (inputsOf set [] starts [] phase) (drop from (take to order)) i
         → r ≡ false → i < phase .count
@@ -194,6 +198,13 @@ unfolding provideFrom
 longer-provided w ps zero i l = longer-same l
 longer-provided w ps (suc n) i l =
     longer-then l (offeredAt w ps i l) (provideFrom w ps n (suc i) (offeredAt w ps i l)) (longer-offered w ps i l) (longer-provided w ps n (suc i) (offeredAt w ps i l))
+
+-- where all are there, nothing is
+pub provided-none : (w : Inputs) (ps : List ℕ) (n i : ℕ) (l : Line) → ((j : ℕ) → j < i + n → isOneOf j (l .order) ≡ true) → provideFrom w ps n i l ≡ l
+unfolding provideFrom
+provided-none w ps zero i l h = refl
+provided-none w ps (suc n) i l h =
+    ap (provideFrom w ps n (suc i)) (offered-there w ps i l (h i (omega arith))) ∙ provided-none w ps n (suc i) l (λ j b. h j (omega (arith, b)))
 
 halt-queued : (i : ℕ) (l : Line) → queued (Add i) l .halt ≡ l .halt
 unfolding queued queuedOn queuedAt

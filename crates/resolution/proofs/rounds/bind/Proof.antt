@@ -7,6 +7,7 @@ pub bind-spec : {M : Type 1} → statement M
 bind-spec =
     tie.close
     (tie.spec
+    (λ c. search (bind-laws, needs))
     (λ c κs. search (bind-laws, needs))
     (λ c κs. search (bind-laws, needs))
     (λ c. search (bind-laws, needs))

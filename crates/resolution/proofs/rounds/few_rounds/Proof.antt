@@ -1,10 +1,10 @@
 use Rattle.resolution.proofs.rounds.Laws.{rounds-fresh}
 use borrow.Author.Needs.{needs}
-use Rattle.resolution.proofs.rounds.all_rounds.Statement.{statement}
-use Rattle.resolution.proofs.rounds.all_rounds.Tie as tie
+use Rattle.resolution.proofs.rounds.few_rounds.Statement.{statement}
+use Rattle.resolution.proofs.rounds.few_rounds.Tie as tie
 
-pub all-rounds-spec : {M : Type 1} → statement M
-all-rounds-spec =
+pub few-rounds-spec : {M : Type 1} → statement M
+few-rounds-spec =
     tie.close
     (tie.spec
     (λ c. search needs)
