@@ -1,4 +1,3 @@
-pub mod Wants
 pub mod Ends
 pub mod Records
 pub mod Turns

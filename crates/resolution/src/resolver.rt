@@ -1,34 +1,23 @@
 // The queue of resolution over positions in the set, until none waits.
 ghost use mathlib.Core.Path.{_≡_};
-ghost use mathlib.Core.Bool.{true, false, _&&_, not};
+ghost use mathlib.Core.Bool.{false, _&&_, not};
 ghost use Prim.Native.Nat.{suc, _-_, _≤_, _<_};
 ghost use lib.Dec.{eqb};
 ghost use lib.ListN.{length, getD, take, drop};
 ghost use Rattle.records.specs.Record.{records};
-ghost use Rattle.records.specs.Request.{requestOf, isPermitted};
-ghost use Rattle.resolution.specs.Resolver.{inputsOf, isMetBefore, isOneOf, want as wantOf, wantRecord, wantUnfound, kindFor, Within, lineAt, queued, queuedAt, queueIn, advancedAt, handleAt, isOpen, isDone, runAt, Ready, Moved};
-ghost use Rattle.resolution.specs.Known.{Limits, Met, Tables};
+ghost use Rattle.resolution.specs.Resolver.{inputsOf, isOneOf, Within, lineAt, queued, queuedAt, queueIn, advancedAt, handleAt, isOpen, isDone, runAt, Ready, Moved};
+ghost use Rattle.resolution.specs.Known.{Tables};
 ghost use Rattle.resolution.specs.Runs.{Running, Ran};
 use crate::modules::end_of;
 use crate::modules::find_split;
-use crate::modules::is_met_before;
-use crate::row::Row;
-use crate::row::has;
+use crate::wanted::kind_for;
+use crate::wanted::want_record;
 use records::bytes::head;
 use records::bytes::part;
-use records::bytes::same;
-use records::descriptor::is_static;
-use records::descriptor::required;
 use records::error::Input;
 use records::error::ModuleError;
-use records::finder::Found;
-use records::index::find_in;
-use records::name::name_of;
-use records::order::contains;
 use records::record::Cursor;
-use records::record::Kind;
 use records::record::Next;
-use records::request::is_permitted;
 use records::set::entry;
 
 // What ends the queue.
@@ -68,184 +57,6 @@ pub struct Phase {
     pub before: usize,
     pub limited: bool,
     pub known: bool,
-}
-
-// Whether the request permits an absent name. Where that is known, `names` tells the names of its LM in order.
-fn permits(request: &[u8], phase: Phase, names: &[usize], name: &[u8]) -> bool
-    requires { ⌜ Limits (now request) phase (now names) ⌝ }
-    requires { ⌜ phase .in_round ≡ false ⌝ }
-    ensures { λ r. ⌜ r ≡ isPermitted (requestOf (now (request .entry))) (now (name .entry)) ⌝ }
-{
-    if phase.limited {
-        if phase.known {
-            if same(name, b"java.base") {
-                return true;
-            }
-            return contains(request, names, names.len(), name);
-        }
-        return is_permitted(request, name);
-    }
-    true
-}
-
-// Whether an absent name was met before the rounds. Where that is known, `names` tells the roots in order, and `needed` the names
-// that the modules resolved before the rounds require and that are not static.
-fn is_met(
-    set: &[u8],
-    request: &[u8],
-    starts: &[usize],
-    old: &[usize],
-    phase: Phase,
-    names: &[usize],
-    needed: &[usize],
-    name: &[u8],
-) -> bool
-    requires { ⌜ Met (now set) (now request) (now starts) (now old) phase (now names) (now needed) ⌝ }
-    requires { ⌜ phase .in_round ≡ true ⌝ }
-    ensures { λ r. ⌜ r ≡ isMetBefore (inputsOf (now (set .entry)) (now (request .entry)) (now (starts .entry)) (now (old .entry)) phase) (now (name .entry)) ⌝ }
-{
-    if phase.known {
-        if contains(request, names, names.len(), name) {
-            return true;
-        }
-        return contains(set, needed, needed.len(), name);
-    }
-    is_met_before(set, request, starts, old, phase.before, name)
-}
-
-// What becomes of an absent name that is not static.
-fn want_absent(
-    set: &[u8],
-    request: &[u8],
-    starts: &[usize],
-    old: &[usize],
-    phase: Phase,
-    names: &[usize],
-    needed: &[usize],
-    name: &[u8],
-    error: ModuleError,
-) -> Wanted
-    requires { ⌜ Limits (now request) phase (now names) ⌝ }
-    requires { ⌜ Met (now set) (now request) (now starts) (now old) phase (now names) (now needed) ⌝ }
-    ensures { λ r. ⌜ r ≡ wantUnfound (inputsOf (now (set .entry)) (now (request .entry)) (now (starts .entry)) (now (old .entry)) phase) (now (name .entry)) error ⌝ }
-    ensures { λ r. ⌜ Within (phase .count) r ⌝ }
-{
-    if phase.in_round {
-        if is_met(set, request, starts, old, phase, names, needed, name) {
-            return Wanted::Pass;
-        }
-        return Wanted::Refuse(error);
-    }
-    if permits(request, phase, names, name) {
-        if same(name, b"java.base") {
-            return Wanted::Stop(ModuleError::JavaBaseNotFound);
-        }
-        return Wanted::Stop(error);
-    }
-    Wanted::Pass
-}
-
-// What becomes of a name, and the refusal where it is absent.
-pub fn want(
-    set: &[u8],
-    request: &[u8],
-    starts: &[usize],
-    old: &[usize],
-    phase: Phase,
-    index: &[u16],
-    names: &[usize],
-    needed: &[usize],
-    name: &[u8],
-    optional: bool,
-    error: ModuleError,
-) -> Wanted
-    requires { ⌜ Tables (now set) (now request) (now starts) (now old) phase (now index) (now names) (now needed) ⌝ }
-    ensures { λ r. ⌜ r ≡ wantOf (inputsOf (now (set .entry)) (now (request .entry)) (now (starts .entry)) (now (old .entry)) phase) (now (name .entry)) optional error ⌝ }
-    ensures { λ r. ⌜ Within (phase .count) r ⌝ }
-{
-    match find_in(set, starts, phase.count, index, name) {
-        Found::At(i) => {
-            let words = phase.permitted;
-            if has(Row { words }, i) {
-                return Wanted::Add(i);
-            }
-            Wanted::Pass
-        }
-        Found::Nothing => {
-            if optional {
-                return Wanted::Pass;
-            }
-            want_absent(set, request, starts, old, phase, names, needed, name, error)
-        }
-    }
-}
-
-// What becomes of the name in the record with this body at start: of the set an RQ, of the request an RT.
-fn want_record(
-    set: &[u8],
-    request: &[u8],
-    starts: &[usize],
-    old: &[usize],
-    phase: Phase,
-    index: &[u16],
-    names: &[usize],
-    needed: &[usize],
-    input: Input,
-    body: &[u8],
-    start: usize,
-) -> Wanted
-    requires { ⌜ Tables (now set) (now request) (now starts) (now old) phase (now index) (now names) (now needed) ⌝ }
-    requires { ⌜ start ≤ 65535 ⌝ }
-    ensures { λ r. ⌜ r ≡ wantRecord (inputsOf (now (set .entry)) (now (request .entry)) (now (starts .entry)) (now (old .entry)) phase) input (now (body .entry)) start ⌝ }
-    ensures { λ r. ⌜ Within (phase .count) r ⌝ }
-{
-    match input {
-        Input::Set => {
-            let name = required(body);
-            let error = ModuleError::ModuleNotFound(Input::Set, start + 3, name.len());
-            want(
-                set,
-                request,
-                starts,
-                old,
-                phase,
-                index,
-                names,
-                needed,
-                name,
-                is_static(body),
-                error,
-            )
-        }
-        Input::Request => {
-            let name = name_of(body);
-            let error = ModuleError::ModuleNotFound(Input::Request, start + 1, name.len());
-            want(
-                set,
-                request,
-                starts,
-                old,
-                phase,
-                index,
-                names,
-                needed,
-                name,
-                false,
-                error,
-            )
-        }
-        Input::Packages => Wanted::Pass,
-    }
-}
-
-fn kind_for(input: Input) -> Kind
-    ensures { λ r. ⌜ r ≡ kindFor input ⌝ }
-{
-    match input {
-        Input::Set => Kind::Requires,
-        Input::Request => Kind::Root,
-        Input::Packages => Kind::Other,
-    }
 }
 
 // Whether position i is in the queue: its mark says so.

@@ -11,53 +11,22 @@ use borrow.Author.Tests.{eqb-true, eqb-false, eq-eqb}
 use Rattle.records.specs.Record.{records}
 use Rattle.records.specs.declared.error.Input.the-variants as Input
 use Rattle.records.proofs.Logic.{clash}
-use Rattle.resolution.specs.Row.{one, countBelow}
+use Rattle.resolution.specs.Row.{one}
 use Rattle.resolution.specs.Resolver.{Inputs, inputsOf, startOf, blockOf, Line, lineAt, isOneOf, pickLine, Ready, Moved, splitAt, advancedAt, handledAt, handleAt, isOpen, goesOn, runAt, isProviderAt, provideAt, isDone, roundAt, roundsAt, isMetBefore}
 use Rattle.resolution.specs.Filter.{requiresIn, isRequired}
 use Rattle.resolution.specs.Known.{RootsTold, Tables, Later}
 use Rattle.resolution.specs.Table.{NamesTold}
-use Rattle.resolution.specs.Runs.{Running, Ran, Unbound, Binding, Between, Rounded}
+use Rattle.resolution.specs.Runs.{Running, Ran, Unbound, Between, Rounded}
 use Rattle.resolution.specs.declared.table.Listed.{Listed}
 use Rattle.resolution.specs.declared.resolver.Halt.{Halt}
 use Rattle.resolution.specs.declared.resolver.Halt.the-variants as Halt
 use Rattle.resolution.specs.declared.resolver.Phase.{Phase}
 use Rattle.resolution.specs.declared.resolver.Queue.{Queue}
 use Rattle.resolution.proofs.table.Laws.{tells-required}
-use Rattle.resolution.proofs.Lists.{by, true≠false}
-use Rattle.resolution.proofs.row.Counts.{count-strict}
+use Rattle.resolution.proofs.Lists.{true≠false}
 use Rattle.resolution.proofs.resolver.Turns.{append-nil, Grown, Longer, grown-same, grown-then, longer-records, front-same, tail-grows, tail-few, tail-long}
 use Rattle.resolution.proofs.resolver.Runs.{not-back, run-ended}
-use Rattle.resolution.proofs.rounds.Providers.{one-grown, provider-none, longer-provided, provided-none, halt-provided, provided-in, provide-same}
-
--- ---- whether the rounds go on
-
--- ---- the providers of a round
-
-module _ (phase : Phase) (set starts order : List ℕ) (bound : ℕ) (q : Queue) (h : Unbound phase set starts order bound q) where
-  pub bind-long : q .head ≤ length order
-  bind-long = omega (arith, h .ready .waits, tail-long (phase .count) order q (h .ready))
-
-  pub bind-told : (table : List ℕ) (s : Listed) → NamesTold false set starts order bound (q .head) table s → Binding phase set starts order bound (q .head) table s q
-  bind-told table s t = record { ready = h .ready; told = t; bound-is = h .bound-is; behind = h .behind }
-
-  -- every position is there, since there is no room for another
-  all-there : phase .count ≡ q .tail → (i : ℕ) → i < phase .count → isOneOf i (take (q .tail) order) ≡ true
-  all-there e i l = by (isOneOf i (take (q .tail) order)) (λ t. t) (λ t. absurd (out t))
-    where
-      out : isOneOf i (take (q .tail) order) ≡ false → ⊥
-      out t =
-          let z : countBelow (λ k. false) (phase .count) < countBelow (λ k. not (isOneOf k (take (q .tail) order))) (phase .count) =
-          count-strict (λ k. false) (λ k. not (isOneOf k (take (q .tail) order))) (phase .count) i l (λ k b f. clash (cc)) refl (rw t) in
-          omega (arith, z, h .ready .room, e)
-
-  pub bind-all : phase .count ≡ q .tail → Moved (phase .count) order q (provideAt (inputsOf set [] starts [] phase) (lineAt order q))
-  unfolding provideAt inputsOf lineAt
-  bind-all e = record {
-    line = sym (provided-none (inputsOf set [] starts [] phase) (take (q .head) (take (q .tail) order)) (phase .count) 0 (lineAt order q) (λ j b. all-there e j (omega (arith, b))));
-    ready = h .ready;
-  }
-
-pub ruleset bind-laws = (bind-long, bind-told, bind-all)
+use Rattle.resolution.proofs.providers.Laws.{one-grown, provider-none, longer-provided, halt-provided, provided-in, provide-same}
 
 -- ---- before the rounds
 

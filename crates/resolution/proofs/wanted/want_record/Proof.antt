@@ -1,7 +1,7 @@
-use Rattle.resolution.proofs.resolver.Wants.{record-laws}
+use Rattle.resolution.proofs.wanted.Laws.{record-laws}
 use borrow.Author.Needs.{needs}
-use Rattle.resolution.proofs.resolver.want_record.Statement.{statement}
-use Rattle.resolution.proofs.resolver.want_record.Tie as tie
+use Rattle.resolution.proofs.wanted.want_record.Statement.{statement}
+use Rattle.resolution.proofs.wanted.want_record.Tie as tie
 
 pub want-record-spec : {M : Type 1} → statement M
 want-record-spec =

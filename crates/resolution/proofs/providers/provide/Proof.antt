@@ -1,8 +1,8 @@
 use Prim.Native.Nat.{_-_}
-use Rattle.resolution.proofs.rounds.Providers.{ProvideAt, provide-laws}
+use Rattle.resolution.proofs.providers.Laws.{ProvideAt, provide-laws}
 use borrow.Author.Needs.{needs}
-use Rattle.resolution.proofs.rounds.provide.Statement.{statement}
-use Rattle.resolution.proofs.rounds.provide.Tie as tie
+use Rattle.resolution.proofs.providers.provide.Statement.{statement}
+use Rattle.resolution.proofs.providers.provide.Tie as tie
 
 abbrev Inv-loop : tie.InvT-loop
 Inv-loop set starts phase order₀ from table services to i₀ line₀ order i line = ProvideAt set starts phase from table services order₀ line₀ to i order line

@@ -1,7 +1,7 @@
-use Rattle.resolution.proofs.resolver.Wants.{met-laws}
+use Rattle.resolution.proofs.wanted.Laws.{met-laws}
 use borrow.Author.Needs.{needs}
-use Rattle.resolution.proofs.resolver.is_met.Statement.{statement}
-use Rattle.resolution.proofs.resolver.is_met.Tie as tie
+use Rattle.resolution.proofs.wanted.is_met.Statement.{statement}
+use Rattle.resolution.proofs.wanted.is_met.Tie as tie
 
 pub is-met-spec : {M : Type 1} → statement M
 is-met-spec =

@@ -1,7 +1,7 @@
-use Rattle.resolution.proofs.rounds.Laws.{bind-laws}
+use Rattle.resolution.proofs.providers.Laws.{bind-laws}
 use borrow.Author.Needs.{needs}
-use Rattle.resolution.proofs.rounds.bind.Statement.{statement}
-use Rattle.resolution.proofs.rounds.bind.Tie as tie
+use Rattle.resolution.proofs.providers.bind.Statement.{statement}
+use Rattle.resolution.proofs.providers.bind.Tie as tie
 
 pub bind-spec : {M : Type 1} → statement M
 bind-spec =

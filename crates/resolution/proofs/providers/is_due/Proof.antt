@@ -1,7 +1,7 @@
-use Rattle.resolution.proofs.rounds.Providers.{due-laws}
+use Rattle.resolution.proofs.providers.Laws.{due-laws}
 use borrow.Author.Needs.{needs}
-use Rattle.resolution.proofs.rounds.is_due.Statement.{statement}
-use Rattle.resolution.proofs.rounds.is_due.Tie as tie
+use Rattle.resolution.proofs.providers.is_due.Statement.{statement}
+use Rattle.resolution.proofs.providers.is_due.Tie as tie
 
 pub is-due-spec : {M : Type 1} → statement M
 is-due-spec =

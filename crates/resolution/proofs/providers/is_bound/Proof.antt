@@ -1,7 +1,7 @@
-use Rattle.resolution.proofs.rounds.Providers.{bound-laws}
+use Rattle.resolution.proofs.providers.Laws.{bound-laws}
 use borrow.Author.Needs.{needs}
-use Rattle.resolution.proofs.rounds.is_bound.Statement.{statement}
-use Rattle.resolution.proofs.rounds.is_bound.Tie as tie
+use Rattle.resolution.proofs.providers.is_bound.Statement.{statement}
+use Rattle.resolution.proofs.providers.is_bound.Tie as tie
 
 pub is-bound-spec : {M : Type 1} → statement M
 is-bound-spec =

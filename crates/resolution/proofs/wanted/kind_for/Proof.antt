@@ -1,7 +1,7 @@
 use Rattle.resolution.specs.Resolver.{kindFor}
 use borrow.Author.Needs.{needs}
-use Rattle.resolution.proofs.resolver.kind_for.Statement.{statement}
-use Rattle.resolution.proofs.resolver.kind_for.Tie as tie
+use Rattle.resolution.proofs.wanted.kind_for.Statement.{statement}
+use Rattle.resolution.proofs.wanted.kind_for.Tie as tie
 
 pub kind-for-spec : {M : Type 1} → statement M
 unfolding kindFor

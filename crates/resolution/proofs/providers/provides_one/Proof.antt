@@ -5,8 +5,8 @@ use Rattle.records.specs.Name.{memName}
 use Rattle.records.specs.Order.{nameIn}
 use Rattle.resolution.proofs.modules.Laws.{ProvidesAt, provides-laws}
 use borrow.Author.Needs.{needs}
-use Rattle.resolution.proofs.rounds.provides_one.Statement.{statement}
-use Rattle.resolution.proofs.rounds.provides_one.Tie as tie
+use Rattle.resolution.proofs.providers.provides_one.Statement.{statement}
+use Rattle.resolution.proofs.providers.provides_one.Tie as tie
 
 abbrev Inv-loop : tie.InvT-loop
 Inv-loop set table count b c₀ c = ProvidesAt (λ x. memName x (map (nameIn set) (take count table))) b (c .at)

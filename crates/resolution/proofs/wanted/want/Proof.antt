@@ -1,7 +1,7 @@
-use Rattle.resolution.proofs.resolver.Wants.{want-laws}
+use Rattle.resolution.proofs.wanted.Laws.{want-laws}
 use borrow.Author.Needs.{needs}
-use Rattle.resolution.proofs.resolver.want.Statement.{statement}
-use Rattle.resolution.proofs.resolver.want.Tie as tie
+use Rattle.resolution.proofs.wanted.want.Statement.{statement}
+use Rattle.resolution.proofs.wanted.want.Tie as tie
 
 pub want-spec : {M : Type 1} → statement M
 want-spec =

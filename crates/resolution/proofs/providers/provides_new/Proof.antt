@@ -1,7 +1,7 @@
-use Rattle.resolution.proofs.rounds.Providers.{new-told}
+use Rattle.resolution.proofs.providers.Laws.{new-told}
 use borrow.Author.Needs.{needs}
-use Rattle.resolution.proofs.rounds.provides_new.Statement.{statement}
-use Rattle.resolution.proofs.rounds.provides_new.Tie as tie
+use Rattle.resolution.proofs.providers.provides_new.Statement.{statement}
+use Rattle.resolution.proofs.providers.provides_new.Tie as tie
 
 pub provides-new-spec : {M : Type 1} → statement M
 provides-new-spec =

@@ -1,7 +1,7 @@
-use Rattle.resolution.proofs.resolver.Wants.{permits-laws}
+use Rattle.resolution.proofs.wanted.Laws.{permits-laws}
 use borrow.Author.Needs.{needs}
-use Rattle.resolution.proofs.resolver.permits.Statement.{statement}
-use Rattle.resolution.proofs.resolver.permits.Tie as tie
+use Rattle.resolution.proofs.wanted.permits.Statement.{statement}
+use Rattle.resolution.proofs.wanted.permits.Tie as tie
 
 pub permits-spec : {M : Type 1} → statement M
 permits-spec =

@@ -1,7 +1,7 @@
-use Rattle.resolution.proofs.rounds.Providers.{offer-laws}
+use Rattle.resolution.proofs.providers.Laws.{offer-laws}
 use borrow.Author.Needs.{needs}
-use Rattle.resolution.proofs.rounds.offer.Statement.{statement}
-use Rattle.resolution.proofs.rounds.offer.Tie as tie
+use Rattle.resolution.proofs.providers.offer.Statement.{statement}
+use Rattle.resolution.proofs.providers.offer.Tie as tie
 
 pub offer-spec : {M : Type 1} → statement M
 offer-spec =

@@ -1,7 +1,7 @@
-use Rattle.resolution.proofs.resolver.Wants.{absent-laws}
+use Rattle.resolution.proofs.wanted.Laws.{absent-laws}
 use borrow.Author.Needs.{needs}
-use Rattle.resolution.proofs.resolver.want_absent.Statement.{statement}
-use Rattle.resolution.proofs.resolver.want_absent.Tie as tie
+use Rattle.resolution.proofs.wanted.want_absent.Statement.{statement}
+use Rattle.resolution.proofs.wanted.want_absent.Tie as tie
 
 pub want-absent-spec : {M : Type 1} → statement M
 want-absent-spec =

@@ -1,11 +1,11 @@
 -- The providers of a round, one module of the set after the other.
 use Prim.Native.Nat.{ℕ, zero, suc, _+_, _-_, _≤_, _<_}
 use mathlib.Core.Path.{_≡_, refl, sym, _∙_, ap, subst}
-use mathlib.Core.Bool.{Bool, true, false, _&&_, _||_}
+use mathlib.Core.Bool.{Bool, true, false, not, _&&_, _||_}
 use mathlib.Core.List.{List, [], _∷_, _++_, map}
 use native.Mathlib.Omega.{arith}
 use lib.Dec.{eqb}
-use lib.ListN.{take, drop, take-append-drop}
+use lib.ListN.{length, take, drop, take-append-drop}
 use lib.Seq.{take-take}
 use borrow.Author.Tests.{eqb-true, eqb-false, eq-eqb}
 use Rattle.records.specs.Name.{memName, nameOf}
@@ -16,10 +16,10 @@ use Rattle.records.specs.declared.record.Kind.{Kind}
 use Rattle.records.specs.declared.record.Kind.the-variants as Kind
 use Rattle.records.proofs.Logic.{clash, and-false}
 use Rattle.resolution.specs.Lists.{Name, any}
-use Rattle.resolution.specs.Row.{holds}
+use Rattle.resolution.specs.Row.{holds, countBelow}
 use Rattle.resolution.specs.Resolver.{Inputs, inputsOf, blockOf, namesOf, hasNamed, Line, lineAt, isOneOf, pickLine, queuedAt, queuedOn, queued, isProviderAt, offeredAt, provideFrom, provideAt, isDone, Within, Ready, Moved}
 use Rattle.resolution.specs.Filter.{asked}
-use Rattle.resolution.specs.Runs.{Binding}
+use Rattle.resolution.specs.Runs.{Unbound, Binding}
 use Rattle.resolution.specs.Table.{tellsAt, NamesTold}
 use Rattle.resolution.specs.declared.resolver.Halt.{Halt}
 use Rattle.resolution.specs.declared.resolver.Halt.the-variants as Halt
@@ -31,8 +31,9 @@ use Rattle.resolution.proofs.Lists.{by, or-l, or-r, true≠false}
 use Rattle.resolution.proofs.ResolverQueue.{any-append}
 use Rattle.resolution.proofs.ResolverRun.{any-same}
 use Rattle.resolution.proofs.modules.Asked.{provider-asked}
+use Rattle.resolution.proofs.row.Counts.{count-strict}
 use Rattle.resolution.proofs.table.Laws.{tells-used}
-use Rattle.resolution.proofs.resolver.Turns.{Grown, Longer, grown-then, longer-same, longer-then, longer-queued, front-same}
+use Rattle.resolution.proofs.resolver.Turns.{Grown, Longer, grown-then, longer-same, longer-then, longer-queued, front-same, tail-long}
 
 -- ---- tests of lists
 
@@ -345,3 +346,31 @@ module _ (set starts : List ℕ) (phase : Phase) (from : ℕ) (table : List ℕ)
     }
 
 pub ruleset provide-laws = (provide-start, provide-binding, provide-turn, provide-done)
+
+-- ---- where there is something to be done
+
+module _ (phase : Phase) (set starts order : List ℕ) (bound : ℕ) (q : Queue) (h : Unbound phase set starts order bound q) where
+  pub bind-long : q .head ≤ length order
+  bind-long = omega (arith, h .ready .waits, tail-long (phase .count) order q (h .ready))
+
+  pub bind-told : (table : List ℕ) (s : Listed) → NamesTold false set starts order bound (q .head) table s → Binding phase set starts order bound (q .head) table s q
+  bind-told table s t = record { ready = h .ready; told = t; bound-is = h .bound-is; behind = h .behind }
+
+  -- every position is there, since there is no room for another
+  all-there : phase .count ≡ q .tail → (i : ℕ) → i < phase .count → isOneOf i (take (q .tail) order) ≡ true
+  all-there e i l = by (isOneOf i (take (q .tail) order)) (λ t. t) (λ t. absurd (out t))
+    where
+      out : isOneOf i (take (q .tail) order) ≡ false → ⊥
+      out t =
+          let z : countBelow (λ k. false) (phase .count) < countBelow (λ k. not (isOneOf k (take (q .tail) order))) (phase .count) =
+          count-strict (λ k. false) (λ k. not (isOneOf k (take (q .tail) order))) (phase .count) i l (λ k b f. clash (cc)) refl (rw t) in
+          omega (arith, z, h .ready .room, e)
+
+  pub bind-all : phase .count ≡ q .tail → Moved (phase .count) order q (provideAt (inputsOf set [] starts [] phase) (lineAt order q))
+  unfolding provideAt inputsOf lineAt
+  bind-all e = record {
+    line = sym (provided-none (inputsOf set [] starts [] phase) (take (q .head) (take (q .tail) order)) (phase .count) 0 (lineAt order q) (λ j b. all-there e j (omega (arith, b))));
+    ready = h .ready;
+  }
+
+pub ruleset bind-laws = (bind-long, bind-told, bind-all)
