@@ -236,7 +236,7 @@ pub fn find_split(
 }
 
 // Whether one of the modules from number `from` to `to` of the positions uses this service.
-fn is_used(
+pub fn is_used(
     set: &[u8],
     starts: &[usize],
     order: &[usize],
@@ -258,47 +258,6 @@ fn is_used(
         k += 1;
     }
     false
-}
-
-// Whether this block provides a service that one of these modules uses.
-fn provides_used(
-    set: &[u8],
-    starts: &[usize],
-    order: &[usize],
-    from: usize,
-    to: usize,
-    b: &[u8],
-) -> bool
-    ensures { λ r. ⌜ r ≡ any (hasNamed (asked (now (set .entry)) (now (starts .entry))) Kind.Uses (drop from (take to (now (order .entry))))) (map nameOf (bodies Kind.Provides (now (b .entry)))) ⌝ }
-{
-    let mut c = Cursor { at: 0 };
-    loop {
-        match c.next(b, Kind::Provides) {
-            Next::Body { start, len, next } => {
-                if is_used(set, starts, order, from, to, name_of(part(b, start, len))) {
-                    return true;
-                }
-                c = next;
-            }
-            Next::Nothing => {
-                return false;
-            }
-        }
-    }
-}
-
-// Whether the module at i provides such a service.
-pub fn is_provider(
-    set: &[u8],
-    starts: &[usize],
-    order: &[usize],
-    from: usize,
-    to: usize,
-    i: usize,
-) -> bool
-    ensures { λ r. ⌜ r ≡ any (hasNamed (asked (now (set .entry)) (now (starts .entry))) Kind.Uses (drop from (take to (now (order .entry))))) (namesOf (asked (now (set .entry)) (now (starts .entry))) Kind.Provides i) ⌝ }
-{
-    provides_used(set, starts, order, from, to, block(set, starts, i))
 }
 
 // Whether the body of an RQ requires this name and is not static.

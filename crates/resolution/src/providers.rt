@@ -1,20 +1,19 @@
 // The providers of a round: the modules that provide a service which resolved modules use.
 ghost use mathlib.Core.Path.{_≡_};
-ghost use mathlib.Core.Bool.{true, false};
+ghost use mathlib.Core.Bool.{false};
 ghost use mathlib.Core.List.{[], map};
-ghost use Prim.Native.Nat.{_≤_, _<_};
-ghost use lib.ListN.{length, take, drop};
-ghost use Rattle.records.specs.Name.{memName, nameOf};
-ghost use Rattle.records.specs.Order.{nameIn, isOrdered};
+ghost use Prim.Native.Nat.{_<_};
+ghost use lib.ListN.{take, drop};
+ghost use Rattle.records.specs.Name.{nameOf};
 ghost use Rattle.records.specs.Record.{bodies};
 ghost use Rattle.records.specs.declared.record.Kind.the-variants as Kind;
 ghost use Rattle.resolution.specs.Lists.{any};
-ghost use Rattle.resolution.specs.Resolver.{inputsOf, namesOf, hasNamed, lineAt, pickLine, queued, isProviderAt, offeredAt, provideAt, Moved};
+ghost use Rattle.resolution.specs.Resolver.{inputsOf, hasNamed, lineAt, pickLine, queued, isProviderAt, offeredAt, provideAt, Moved};
 ghost use Rattle.resolution.specs.Filter.{asked};
 ghost use Rattle.resolution.specs.Runs.{Unbound, Binding};
 ghost use Rattle.resolution.specs.Table.{NamesTold};
 ghost use Rattle.resolution.specs.declared.resolver.Wanted.the-variants as Wanted;
-use crate::modules::is_provider;
+use crate::modules::is_used;
 use crate::resolver::Phase;
 use crate::resolver::Queue;
 use crate::resolver::Wanted;
@@ -32,17 +31,47 @@ use records::record::Kind;
 use records::record::Next;
 use records::set::block;
 
-// Whether this block provides a service of the table.
-fn provides_one(set: &[u8], table: &[usize], count: usize, b: &[u8]) -> bool
-    requires { ⌜ count ≤ length (now table) ⌝ }
-    requires { ⌜ isOrdered (map (nameIn (now set)) (take count (now table))) ≡ true ⌝ }
-    ensures { λ r. ⌜ r ≡ any (λ x. memName x (map (nameIn (now (set .entry))) (take count (now (table .entry))))) (map nameOf (bodies Kind.Provides (now (b .entry)))) ⌝ }
+// Whether one of the modules from number `from` to `to` of the order uses this service. The table tells the services that they use;
+// where it had no room for all, the modules are asked.
+fn is_service(
+    set: &[u8],
+    starts: &[usize],
+    order: &[usize],
+    from: usize,
+    to: usize,
+    table: &[usize],
+    services: Listed,
+    name: &[u8],
+) -> bool
+    requires { ⌜ NamesTold false (now set) (now starts) (now order) from to (now table) services ⌝ }
+    ensures { λ r. ⌜ r ≡ hasNamed (asked (now (set .entry)) (now (starts .entry))) Kind.Uses (drop from (take to (now (order .entry)))) (now (name .entry)) ⌝ }
+{
+    if services.known {
+        return contains(set, table, services.count, name);
+    }
+    is_used(set, starts, order, from, to, name)
+}
+
+// Whether this block provides such a service.
+fn provides_used(
+    set: &[u8],
+    starts: &[usize],
+    order: &[usize],
+    from: usize,
+    to: usize,
+    table: &[usize],
+    services: Listed,
+    b: &[u8],
+) -> bool
+    requires { ⌜ NamesTold false (now set) (now starts) (now order) from to (now table) services ⌝ }
+    ensures { λ r. ⌜ r ≡ any (hasNamed (asked (now (set .entry)) (now (starts .entry))) Kind.Uses (drop from (take to (now (order .entry))))) (map nameOf (bodies Kind.Provides (now (b .entry)))) ⌝ }
 {
     let mut c = Cursor { at: 0 };
     loop {
         match c.next(b, Kind::Provides) {
             Next::Body { start, len, next } => {
-                if contains(set, table, count, name_of(part(b, start, len))) {
+                let name = name_of(part(b, start, len));
+                if is_service(set, starts, order, from, to, table, services, name) {
                     return true;
                 }
                 c = next;
@@ -52,27 +81,6 @@ fn provides_one(set: &[u8], table: &[usize], count: usize, b: &[u8]) -> bool
             }
         }
     }
-}
-
-// Whether the module at i provides a service that one of the modules from number `from` to `to` uses. The table tells these services;
-// where it had no room for all, the modules are asked.
-fn provides_new(
-    set: &[u8],
-    starts: &[usize],
-    order: &[usize],
-    from: usize,
-    to: usize,
-    table: &[usize],
-    services: Listed,
-    i: usize,
-) -> bool
-    requires { ⌜ NamesTold false (now set) (now starts) (now order) from to (now table) services ⌝ }
-    ensures { λ r. ⌜ r ≡ any (hasNamed (asked (now (set .entry)) (now (starts .entry))) Kind.Uses (drop from (take to (now (order .entry))))) (namesOf (asked (now (set .entry)) (now (starts .entry))) Kind.Provides i) ⌝ }
-{
-    if services.known {
-        return provides_one(set, table, services.count, block(set, starts, i));
-    }
-    is_provider(set, starts, order, from, to, i)
 }
 
 // The module at i is permitted and provides such a service.
@@ -92,7 +100,8 @@ fn is_bound(
 {
     let words = phase.permitted;
     if has(Row { words }, i) {
-        let bound = provides_new(set, starts, order, from, to, table, services, i);
+        let b = block(set, starts, i);
+        let bound = provides_used(set, starts, order, from, to, table, services, b);
         return bound;
     }
     false

@@ -134,18 +134,18 @@ pub record BodyAt (q : List ℕ → Bool) (k : Kind) (b : List ℕ) (at : ℕ) :
 
 module _ (q : List ℕ → Bool) (k : Kind) (b : List ℕ) (at : ℕ) (h : BodyAt q k b at) (r : Next) (er : r ≡ nextOf k b at) where
   module _ (start len : ℕ) (next : Cursor) (e : r ≡ Next.Body start len next) where
-    body-turn : any q (bodies k b) ≡ q (take len (drop start b)) || any q (bodies k (drop (next .at) b))
+    pub body-turn : any q (bodies k b) ≡ q (take len (drop start b)) || any q (bodies k (drop (next .at) b))
     unfolding any
     body-turn = h .left ∙ rw (bodies-next k b at r er start len next e (h .within))
 
-    body-more : q (take len (drop start b)) ≡ false → BodyAt q k b (next .at)
+    pub body-more : q (take len (drop start b)) ≡ false → BodyAt q k b (next .at)
     body-more f = record { within = next-room k b at r er start len next e (h .within); left = body-turn ∙ rw f }
 
-  body-done : r ≡ Next.Nothing → any q (bodies k b) ≡ false
+  pub body-done : r ≡ Next.Nothing → any q (bodies k b) ≡ false
   unfolding any
   body-done e = h .left ∙ rw (bodies-end k b at r er e)
 
-any-map : {A B : Type 0} (f : A → B) (q : B → Bool) (l : List A) → any q (map f l) ≡ any (λ (x : A). q (f x)) l
+pub any-map : {A B : Type 0} (f : A → B) (q : B → Bool) (l : List A) → any q (map f l) ≡ any (λ (x : A). q (f x)) l
 unfolding any
 any-map f q [] = refl
 any-map f q (x ∷ l) = rw (any-map f q l)
@@ -181,40 +181,6 @@ module _ (set starts ps : List ℕ) (from to : ℕ) (name : Name) (k : ℕ) (h :
   used-none l = sym (h .left ∙ rw (rest-none ps to k l))
 
 pub ruleset used-laws = (used-start, used-here, used-more, used-past, used-none)
-
--- no service that the block provides before `at` passes
-pub record ProvidesAt (q : Name → Bool) (b : List ℕ) (at : ℕ) : Type 0 where
-  pub walk : BodyAt (λ (x : List ℕ). q (nameOf x)) Kind.Provides b at
-
-pub provides-start : (q : Name → Bool) (b : List ℕ) → ProvidesAt q b 0
-provides-start q b = record { walk = record { within = omega arith; left = refl } }
-
-module _ (q : Name → Bool) (b : List ℕ) (at : ℕ) (h : ProvidesAt q b at) (r : Next) (er : r ≡ nextOf Kind.Provides b at) where
-  module _ (start len : ℕ) (next : Cursor) (e : r ≡ Next.Body start len next) where
-    pub provides-less : length b - next .at < length b - at
-    provides-less = next-less Kind.Provides b at r er start len next e (h .walk .within)
-
-    module _ (x m : List ℕ) (ex : x ≡ take len (drop start b)) (em : m ≡ nameOf x) (t : Bool) (et : t ≡ q m) where
-      asks : q (nameOf (take len (drop start b))) ≡ t
-      asks = sym (et ∙ ap q (em ∙ ap nameOf ex))
-
-      pub provides-here : t ≡ true → true ≡ any q (map nameOf (bodies Kind.Provides b))
-      provides-here y =
-          sym (any-map nameOf q (bodies Kind.Provides b) ∙ body-turn (λ (z : List ℕ). q (nameOf z)) Kind.Provides b at (h .walk) r er start len next e ∙ rw (asks, y))
-
-      pub provides-more : t ≡ false → ProvidesAt q b (next .at)
-      provides-more y = record { walk = body-more (λ (z : List ℕ). q (nameOf z)) Kind.Provides b at (h .walk) r er start len next e (asks ∙ y) }
-
-  pub provides-done : r ≡ Next.Nothing → false ≡ any q (map nameOf (bodies Kind.Provides b))
-  provides-done e = sym (any-map nameOf q (bodies Kind.Provides b) ∙ body-done (λ (z : List ℕ). q (nameOf z)) Kind.Provides b at (h .walk) r er e)
-
-pub ruleset provides-laws = (provides-start, provides-less, provides-here, provides-more, provides-done)
-
-pub provider-is : (set starts ps b : List ℕ) (from to i : ℕ) (r : Bool) → b ≡ blockAt set starts i
-    → r ≡ any (hasNamed (asked set starts) Kind.Uses (drop from (take to ps))) (map nameOf (bodies Kind.Provides b))
-    → r ≡ any (hasNamed (asked set starts) Kind.Uses (drop from (take to ps))) (namesOf (asked set starts) Kind.Provides i)
-unfolding namesOf blockOf
-provider-is set starts ps b from to i r eb er = er ∙ rw eb
 
 -- ---- requirements
 

@@ -32,7 +32,6 @@ use Rattle.resolution.proofs.ResolverQueue.{any-append}
 use Rattle.resolution.proofs.ResolverRun.{any-same}
 use Rattle.resolution.proofs.modules.Asked.{provider-asked}
 use Rattle.resolution.proofs.row.Counts.{count-strict}
-use Rattle.resolution.proofs.table.Laws.{tells-used}
 use Rattle.resolution.proofs.resolver.Turns.{Grown, Longer, grown-then, longer-same, longer-then, longer-queued, front-same, tail-long}
 
 -- ---- tests of lists
@@ -91,25 +90,17 @@ provider-none w i = ap (λ (b : Bool). holds (w .permitted) i && b) (go (namesOf
 
 -- ---- one module
 
--- the table tells all services that are used
-pub new-told : (set starts order : List ℕ) (from to : ℕ) (table : List ℕ) (s : Listed) → NamesTold false set starts order from to table s → s .known ≡ true
-    → (i : ℕ) (x : List ℕ) (b : Bool) → x ≡ blockAt set starts i
-    → b ≡ any (λ n. memName n (map (nameIn set) (take (s .count) table))) (map nameOf (bodies Kind.Provides x))
-    → b ≡ any (hasNamed (asked set starts) Kind.Uses (drop from (take to order))) (namesOf (asked set starts) Kind.Provides i)
-unfolding namesOf blockOf
-new-told set starts order from to table s h a i x b ex eb =
-    eb ∙ any-same (λ (n : Name). memName n (map (nameIn set) (take (s .count) table))) (hasNamed (asked set starts) Kind.Uses (drop from (take to order))) (map nameOf (bodies Kind.Provides x)) (λ n. h .told a n ∙ tells-used set starts (drop from (take to order)) n)
-    ∙ ap (λ (y : List ℕ). any (hasNamed (asked set starts) Kind.Uses (drop from (take to order))) (map nameOf (bodies Kind.Provides y))) ex
-
 module _ (set starts ps : List ℕ) (phase : Phase) (i : ℕ) (r : Bool) (er : r ≡ holds (phase .permitted) i) where
   pub bound-not : r ≡ false → false ≡ isProviderAt (inputsOf set [] starts [] phase) ps i
   unfolding isProviderAt inputsOf
   bound-not e = sym (rw (← er, e))
 
-  pub bound-is : r ≡ true → (b : Bool) → b ≡ any (hasNamed (asked set starts) Kind.Uses ps) (namesOf (asked set starts) Kind.Provides i)
+  pub bound-is : r ≡ true → (x : List ℕ) (b : Bool) → x ≡ blockAt set starts i → b ≡ any (hasNamed (asked set starts) Kind.Uses ps) (map nameOf (bodies Kind.Provides x))
       → b ≡ isProviderAt (inputsOf set [] starts [] phase) ps i
-  unfolding inputsOf
-  bound-is e b eb = eb ∙ sym (provider-asked (inputsOf set [] starts [] phase) ps i ∙ rw (← er, e))
+  unfolding inputsOf namesOf blockOf
+  bound-is e x b ex eb =
+      eb ∙ ap (λ (y : List ℕ). any (hasNamed (asked set starts) Kind.Uses ps) (map nameOf (bodies Kind.Provides y))) ex
+      ∙ sym (provider-asked (inputsOf set [] starts [] phase) ps i ∙ rw (← er, e))
 
 pub ruleset bound-laws = (bound-not, bound-is)
 

@@ -9,5 +9,6 @@ is-bound-spec =
     (tie.spec
     (λ c κs. search (bound-laws, needs))
     (λ c κs. search (bound-laws, needs))
+    (λ c κs. search (bound-laws, needs))
     (λ c. search (bound-laws, needs))
     (λ c. search (bound-laws, needs)))
