@@ -10,7 +10,6 @@ use crate::reply::too_few;
 use crate::words::put_configuration;
 use records::request::check;
 use records::set::SetAnswer;
-use resolution::configuration::Configuration;
 use resolution::configuration::len;
 use resolution::resolve::Outcome;
 use resolution::resolve::Resolution;

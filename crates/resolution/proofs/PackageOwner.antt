@@ -20,7 +20,7 @@ use Rattle.records.specs.declared.set.SetAnswer.the-variants.{Modules}
 use Rattle.records.proofs.Logic.{clash}
 use Rattle.records.proofs.bytes.Laws.{same-refl}
 use Rattle.records.proofs.set.Blocks.{GoodSet, good-set}
-use Rattle.resolution.specs.Lists.{Name, Mem, any}
+use Rattle.resolution.specs.Lists.{Name, Mem}
 use Rattle.resolution.specs.Loop.{Result, done}
 use Rattle.resolution.specs.Owner.{owner, named}
 use Rattle.resolution.specs.Owner as Owned

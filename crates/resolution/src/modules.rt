@@ -11,7 +11,7 @@ ghost use Rattle.records.specs.Name.{nameOf, memName};
 ghost use Rattle.records.specs.Order.{nameIn, isOrdered};
 ghost use Rattle.records.specs.Record.{bodies};
 ghost use Rattle.records.specs.declared.record.Kind.the-variants as Kind;
-ghost use Rattle.resolution.specs.Lists.{any, keep};
+ghost use Rattle.resolution.specs.Lists.{keep};
 ghost use Rattle.resolution.specs.Owner.{least};
 ghost use Rattle.resolution.specs.Resolver.{namesOf, hasNamed, requiresName, isMetBefore, splitOf, splitAt};
 ghost use Rattle.resolution.specs.Filter.{MarkedAll, Covers, leastOf, lesserOf, leastIn, asked, askedBefore, foundOf, positionIn, firstNamed, requiresIn, isRequired};

@@ -63,7 +63,8 @@ table-last (suc (suc zero)) a b c d = absurd (c refl)
 table-last (suc (suc (suc zero))) a b c d = absurd (d refl)
 table-last (suc (suc (suc (suc i)))) a b c d = refl
 
-tables-next : (i : ℕ) → i < 5 → drop i moduleTables ≡ tableEntry i ∷ drop (suc i) moduleTables
+-- the table i, and those behind it
+pub tables-next : (i : ℕ) → i < 5 → drop i moduleTables ≡ tableEntry i ∷ drop (suc i) moduleTables
 unfolding moduleTables tableEntry
 tables-next zero l = refl
 tables-next (suc zero) l = refl

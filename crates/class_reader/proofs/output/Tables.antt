@@ -1,8 +1,9 @@
 -- The records of the tables of a Module attribute, and of the attribute: what each turn of the loop shows.
-use Prim.Native.Nat.{ℕ, zero, suc, _+_, _≤_, _<_}
+use Prim.Native.Nat.{ℕ, _+_, _≤_, _<_}
 use mathlib.Core.Path.{_≡_, refl, sym, _∙_}
 use mathlib.Core.List.{List, [], _∷_, _++_, append-nil}
 use mathlib.Core.Bool.{true, false, _&&_}
+use native.Mathlib.Numerals.{add-one}
 use native.Mathlib.Omega.{arith}
 use lib.ListN.{length, drop, drop-of-length-le, length-append}
 use Rattle.records.specs.Output.{Put, recordBytes}
@@ -16,20 +17,11 @@ use Rattle.class_reader.specs.declared.entry.Entry.{Entry}
 use Rattle.class_reader.specs.declared.entry.Entry.the-variants.{Module}
 use Rattle.class_reader.specs.declared.output.Placed.{Placed}
 use Rattle.class_reader.proofs.entry.Items.{bytes-append}
+use Rattle.class_reader.proofs.measure.Tables.{tables-next}
 use Rattle.class_reader.proofs.output.Items.{front-fits, back-fits, one-fits, rest-fits}
 use Rattle.class_reader.proofs.output.Putting.{Putting, putting-start, putting-room, putting-more, putting-done}
 
 -- ---- the tables
-
--- the table i, and those behind it
-tables-next : (i : ℕ) → i < 5 → drop i moduleTables ≡ tableEntry i ∷ drop (i + 1) moduleTables
-unfolding moduleTables tableEntry
-tables-next zero l = refl
-tables-next (suc zero) l = refl
-tables-next (suc (suc zero)) l = refl
-tables-next (suc (suc (suc zero))) l = refl
-tables-next (suc (suc (suc (suc zero)))) l = refl
-tables-next (suc (suc (suc (suc (suc i))))) l = absurd (omega arith)
 
 tables-none : (i : ℕ) → 5 ≤ i → drop i moduleTables ≡ []
 unfolding moduleTables
@@ -62,7 +54,7 @@ module _ {o : List ℕ} {at : ℕ} {f t : List ℕ} {p : ℕ} {out : List ℕ} {
 
   module _ (l : i < 5) (e : Entry) (ee : e ≡ tableEntry i) where
     next : drop i moduleTables ≡ e ∷ rest
-    next = tables-next i l ∙ rw ee
+    next = rw (add-one i) (tables-next i l ∙ rw ee)
 
     good-next : (tableGood e f t (m .next) && tablesGood f t rest (tableEnd e f (m .next))) ≡ true
     unfolding tablesGood

@@ -7,7 +7,7 @@ use native.Mathlib.Omega.{arith}
 use native.Mathlib.Numerals.{sub-one}
 use lib.ListN.{length, getD, take, drop, length-drop, List·getD-map}
 use lib.Seq.{length-take-le, drop-drop}
-use borrow.Author.Tests.{eq-eqb, ne-eqb, leb-true}
+use borrow.Author.Tests.{eq-eqb, ne-eqb}
 use Rattle.records.specs.Name.{nameOf}
 use Rattle.records.specs.Record.{markOf, bodyOf, records, recordMore, sizeOf, whole, stepAt, markFor, isOf, bodiesIn, bodies, nextIn, nextOf, nthIn, nthOf, pickNext, begins, firstIn}
 use Rattle.records.specs.declared.record.Cursor.{Cursor}
@@ -17,7 +17,7 @@ use Rattle.records.specs.declared.record.Next.{Next}
 use Rattle.records.specs.declared.record.Next.the-variants.{Body, Nothing}
 use Rattle.records.specs.declared.record.Kind.{Kind}
 use Rattle.records.proofs.Logic.{clash}
-use Rattle.records.proofs.record.Laws.{Stepped, stepped, stepped-bad, stepped-end, front, records-next, front-mark, front-body, front-length, records-cons, records-none, records-end, records-ind, body-front, step-less}
+use Rattle.records.proofs.record.Laws.{Stepped, stepped, stepped-bad, stepped-end, Front, front, front-of, records-next, front-mark, front-body, front-length, records-cons, records-none, records-end, records-ind, body-front, step-less}
 
 -- ---- the next record of a kind
 
@@ -101,8 +101,8 @@ finds-more k t e ih = record { finds = λ off start len next h. go off start len
     n : ℕ
     n = suc (recordMore t)
 
-    l : n ≤ length t
-    l = leb-true n (length t) e
+    head : Front t
+    head = front-of t e
 
     f : List ℕ
     f = take n t
@@ -110,42 +110,33 @@ finds-more k t e ih = record { finds = λ off start len next h. go off start len
     u : List ℕ
     u = drop n t
 
-    long : length f ≡ n
-    long = length-take-le n t l
-
-    body : bodyOf f ≡ take (sizeOf t) (drop 4 t)
-    body = body-front t
-
-    size : length (bodyOf f) ≡ sizeOf t
-    size = rw body (length-take-le (sizeOf t) (drop 4 t) (rw length-drop (omega (arith, l))))
-
     here : (off start len : ℕ) (next : Cursor) → isOf k f ≡ true → start ≡ off + 4 → len ≡ length (bodyOf f) → next .at ≡ off + length f → Found k off t start len next
     here off start len next eb es el en =
         let d : start - off ≡ 4 = omega arith in
-        let g : next .at - off ≡ n = omega (arith, long) in
+        let g : next .at - off ≡ n = omega (arith, head .long) in
         let c : next ≡ record { at = off + length f } = cursor-at next (off + length f) en in
         record {
           later = omega arith;
-          next-is = omega (arith, long, size, es, el, en);
-          room = omega (arith, l, size);
-          bodies-are = rw (records-cons t e, eb, d, g, el, size, body);
+          next-is = omega (arith, head .long, head .size, es, el, en);
+          room = omega (arith, head .inside, head .size);
+          bodies-are = rw (records-cons t e, eb, d, g, el, head .size, body-front t);
           nth-here = rw (records-cons t e, eb, es, el, ← c);
           nth-later = λ i. rw (records-cons t e, eb, g, en);
-          first-is = λ ns. rw (records-cons t e, eb, d, g, es, el, size, body, en, ← c);
+          first-is = λ ns. rw (records-cons t e, eb, d, g, es, el, head .size, body-front t, en, ← c);
         }
 
     there : (off start len : ℕ) (next : Cursor) → isOf k f ≡ false → Found k (off + length f) u start len next → Found k off t start len next
     there off start len next eb p =
-        let d : n + (start - (off + n)) ≡ start - off = omega (arith, p .later, long) in
-        let g : n + (next .at - (off + n)) ≡ next .at - off = omega (arith, p .later, p .next-is, long) in
+        let d : n + (start - (off + n)) ≡ start - off = omega (arith, p .later, head .long) in
+        let g : n + (next .at - (off + n)) ≡ next .at - off = omega (arith, p .later, p .next-is, head .long) in
         record {
           later = omega (arith, p .later);
           next-is = p .next-is;
-          room = omega (arith, p .room, long, length-drop n t);
-          bodies-are = rw (records-cons t e, eb) (p .bodies-are ∙ rw (long, drop-drop (start - (off + n)) n t, drop-drop (next .at - (off + n)) n t, d, g));
+          room = omega (arith, p .room, head .long, length-drop n t);
+          bodies-are = rw (records-cons t e, eb) (p .bodies-are ∙ rw (head .long, drop-drop (start - (off + n)) n t, drop-drop (next .at - (off + n)) n t, d, g));
           nth-here = rw (records-cons t e, eb) (p .nth-here);
-          nth-later = λ i. rw (records-cons t e, eb) (p .nth-later i ∙ rw (long, drop-drop (next .at - (off + n)) n t, g));
-          first-is = λ ns. rw (records-cons t e, eb) (p .first-is ns ∙ rw (long, drop-drop (start - (off + n)) n t, drop-drop (next .at - (off + n)) n t, d, g));
+          nth-later = λ i. rw (records-cons t e, eb) (p .nth-later i ∙ rw (head .long, drop-drop (next .at - (off + n)) n t, g));
+          first-is = λ ns. rw (records-cons t e, eb) (p .first-is ns ∙ rw (head .long, drop-drop (start - (off + n)) n t, drop-drop (next .at - (off + n)) n t, d, g));
         }
 
     go : (off start len : ℕ) (next : Cursor) (b : Bool) → isOf k f ≡ b
@@ -320,17 +311,14 @@ numbered-more k t e ih = record {
     n : ℕ
     n = suc (recordMore t)
 
-    l : n ≤ length t
-    l = leb-true n (length t) e
+    head : Front t
+    head = front-of t e
 
     f : List ℕ
     f = take n t
 
     u : List ℕ
     u = drop n t
-
-    long : length f ≡ n
-    long = length-take-le n t l
 
     At : ℕ → ℕ → ℕ → ℕ → Type 0
     At i off start len = (off + 4 ≤ start) × (getD (cond (isOf k f) (bodyOf f ∷ bodiesIn k (records u)) (bodiesIn k (records u))) i [] ≡ take len (drop (start - off) t))
@@ -340,8 +328,8 @@ numbered-more k t e ih = record {
 
     deeper : (j off start len : ℕ) → Stands k j (off + length f) u start len → (off + 4 ≤ start) × (getD (bodiesIn k (records u)) j [] ≡ take len (drop (start - off) t))
     deeper j off start len p =
-        let d : n + (start - (off + n)) ≡ start - off = omega (arith, p .later, long) in
-        (omega (arith, p .later), p .body-is ∙ rw (long, drop-drop (start - (off + n)) n t, d))
+        let d : n + (start - (off + n)) ≡ start - off = omega (arith, p .later, head .long) in
+        (omega (arith, p .later), p .body-is ∙ rw (head .long, drop-drop (start - (off + n)) n t, d))
 
     go : (i off start len : ℕ) (next : Cursor) (b : Bool) → isOf k f ≡ b → nthIn k i off (f ∷ records u) ≡ Body start len next → At i off start len
     go zero off start len next true eb h =

@@ -172,6 +172,19 @@ pub body-front : (t : List ℕ) → bodyOf (take (suc (recordMore t)) t) ≡ tak
 unfolding bodyOf recordMore
 body-front t = let e : suc (3 + sizeOf t) ≡ 4 + sizeOf t = omega arith in rw (e, drop-take 4 (sizeOf t) t)
 
+-- the record in front of t, where it is whole
+pub record Front (t : List ℕ) : Type 0 where
+  pub inside : suc (recordMore t) ≤ length t
+  pub long : length (take (suc (recordMore t)) t) ≡ suc (recordMore t)
+  pub size : length (bodyOf (take (suc (recordMore t)) t)) ≡ sizeOf t
+
+pub front-of : (t : List ℕ) → whole t ≡ true → Front t
+unfolding whole recordMore
+front-of t e = record { inside = inside; long = length-take-le (suc (recordMore t)) t inside; size = rw (body-front t) (length-take-le (sizeOf t) (drop 4 t) (rw length-drop (omega (arith, inside)))) }
+  where
+    inside : suc (recordMore t) ≤ length t
+    inside = leb-true (suc (recordMore t)) (length t) e
+
 module _ (s : List ℕ) (at mark start len : ℕ) (next : Cursor) (p : Stepped s at mark start len next) where
   -- the record that was found, with its mark and length
   abbrev pub front : List ℕ

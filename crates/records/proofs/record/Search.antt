@@ -7,17 +7,17 @@ use mathlib.Core.Option.{Option, none, some}
 use native.Mathlib.Omega.{arith}
 use lib.ListN.{length, take, drop, length-drop}
 use native.Mathlib.Numerals.{sub-one}
-use lib.Seq.{length-take-le, drop-drop, take-nil}
-use borrow.Author.Tests.{leb-true, not-true, not-false}
+use lib.Seq.{drop-drop, take-nil}
+use borrow.Author.Tests.{not-true, not-false}
 use Rattle.records.specs.Bytes.{sameBytes}
 use Rattle.records.specs.Name.{nameOf, afterName}
-use Rattle.records.specs.Record.{bodyOf, records, recordMore, sizeOf, whole, isOf, bodiesIn, bodies, nextOf, pickNext, begins, firstIn, firstOf}
+use Rattle.records.specs.Record.{bodyOf, records, recordMore, whole, isOf, bodiesIn, bodies, nextOf, pickNext, begins, firstIn, firstOf}
 use Rattle.records.specs.declared.record.Cursor.{Cursor}
 use Rattle.records.specs.declared.record.Next.{Next}
 use Rattle.records.specs.declared.record.Next.the-variants.{Body, Nothing}
 use Rattle.records.specs.declared.record.Kind.{Kind}
 use Rattle.records.proofs.Logic.{clash}
-use Rattle.records.proofs.record.Laws.{records-cons, records-none, records-ind, body-front}
+use Rattle.records.proofs.record.Laws.{Front, front-of, records-cons, records-none, records-ind, body-front}
 use Rattle.records.proofs.record.Bodies.{first-next, first-end, next-room, next-less}
 
 -- ---- a body begins with names
@@ -138,8 +138,8 @@ firsts-more k ns t e ih = record {
     n : ℕ
     n = suc (recordMore t)
 
-    l : n ≤ length t
-    l = leb-true n (length t) e
+    head : Front t
+    head = front-of t e
 
     f : List ℕ
     f = take n t
@@ -147,31 +147,22 @@ firsts-more k ns t e ih = record {
     u : List ℕ
     u = drop n t
 
-    long : length f ≡ n
-    long = length-take-le n t l
-
-    body : bodyOf f ≡ take (sizeOf t) (drop 4 t)
-    body = body-front t
-
-    size : length (bodyOf f) ≡ sizeOf t
-    size = rw body (length-take-le (sizeOf t) (drop 4 t) (rw length-drop (omega (arith, l))))
-
     here : (off start len : ℕ) → isOf k f ≡ true → begins ns (bodyOf f) ≡ true → start ≡ off + 4 → len ≡ length (bodyOf f) → First k ns off t start len
     here off start len eb eq es el =
         let d : start - off ≡ 4 = omega arith in
         record {
           later = omega arith;
-          room = omega (arith, l, size);
-          body-is = rw (records-cons t e, eb, eq, d, el, size, body);
+          room = omega (arith, head .inside, head .size);
+          body-is = rw (records-cons t e, eb, eq, d, el, head .size, body-front t);
         }
 
     there : (off start len : ℕ) → firstBody ns (bodies k t) ≡ firstBody ns (bodies k u) → First k ns (off + length f) u start len → First k ns off t start len
     there off start len eb p =
-        let d : n + (start - (off + n)) ≡ start - off = omega (arith, p .later, long) in
+        let d : n + (start - (off + n)) ≡ start - off = omega (arith, p .later, head .long) in
         record {
           later = omega (arith, p .later);
-          room = omega (arith, p .room, long, length-drop n t);
-          body-is = eb ∙ p .body-is ∙ rw (long, drop-drop (start - (off + n)) n t, d);
+          room = omega (arith, p .room, head .long, length-drop n t);
+          body-is = eb ∙ p .body-is ∙ rw (head .long, drop-drop (start - (off + n)) n t, d);
         }
 
     go : (off start len : ℕ) (next : Cursor) (b : Bool) → isOf k f ≡ b → (q : Bool) → begins ns (bodyOf f) ≡ q

@@ -8,7 +8,6 @@ use native.Mathlib.Omega.{arith}
 use native.Mathlib.Numerals.{add-one}
 use lib.ListN.{length, getD, take, drop, drop-of-length-le, length-take}
 use lib.Seq.{drop-cons, getD-take}
-use borrow.Author.Tests.{eq-eqb, ne-eqb}
 use Rattle.records.specs.Bytes.{sameBytes}
 use Rattle.records.specs.Name.{memName, nameOf}
 use Rattle.records.specs.Record.{bodies, nextOf}
@@ -25,7 +24,7 @@ use Rattle.records.specs.declared.record.Kind.the-variants as Kind
 use Rattle.records.proofs.Logic.{clash}
 use Rattle.records.proofs.record.Bodies.{bodies-next, bodies-end, next-room, next-less}
 use Rattle.resolution.specs.Lists.{Name, any, first}
-use Rattle.resolution.specs.Resolver.{Inputs, blockOf, namesOf, hasNamed, isOneOf, requiresName, isMetBefore, ownerAt}
+use Rattle.resolution.specs.Resolver.{Inputs, blockOf, namesOf, hasNamed, requiresName, isMetBefore, ownerAt}
 use Rattle.resolution.specs.Filter.{isMarked, Covers, asked, askedBefore, foundOf, firstNamed, requiresIn, isRequired}
 use Rattle.resolution.proofs.Lists.{any-in, any-out, by, first-in, first-out}
 use Rattle.resolution.proofs.filter.Covers.{covers-not}

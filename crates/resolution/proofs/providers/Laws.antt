@@ -9,7 +9,6 @@ use lib.ListN.{length, take, drop, take-append-drop}
 use lib.Seq.{take-take}
 use borrow.Author.Tests.{eqb-true, eqb-false, eq-eqb}
 use Rattle.records.specs.Name.{memName, nameOf}
-use Rattle.records.specs.Order.{nameIn}
 use Rattle.records.specs.Record.{bodies}
 use Rattle.records.specs.Set.{blockAt}
 use Rattle.records.specs.declared.record.Kind.{Kind}

@@ -5,17 +5,17 @@ use mathlib.Core.Bool.{Bool, true, false}
 use mathlib.Core.List.{List, [], _∷_}
 use native.Mathlib.Omega.{arith}
 use lib.Dec.{ltb}
-use lib.ListN.{length, take, drop, length-drop}
-use lib.Seq.{length-take-le, drop-drop}
-use borrow.Author.Tests.{leb-true, ltb-true, ltb-false}
-use Rattle.records.specs.Record.{bodyOf, records, recordMore, sizeOf, whole, isOf, nextIn, nextOf, pickNext}
+use lib.ListN.{length, take, drop}
+use lib.Seq.{drop-drop}
+use borrow.Author.Tests.{ltb-true, ltb-false}
+use Rattle.records.specs.Record.{bodyOf, records, recordMore, whole, isOf, nextIn, nextOf, pickNext}
 use Rattle.records.specs.declared.error.Input.{Input}
 use Rattle.records.specs.declared.record.Cursor.{Cursor}
 use Rattle.records.specs.declared.record.Kind.{Kind}
 use Rattle.records.specs.declared.record.Next.{Next}
 use Rattle.records.specs.declared.record.Next.the-variants.{Body, Nothing}
 use Rattle.records.proofs.Logic.{clash}
-use Rattle.records.proofs.record.Laws.{records-cons, records-none, records-end, records-ind, body-front}
+use Rattle.records.proofs.record.Laws.{Front, front-of, records-cons, records-none, records-end, records-ind, body-front}
 use Rattle.records.proofs.record.Bodies.{next-less, body-room}
 use Rattle.resolution.specs.Resolver.{Inputs, inputsOf, wantRecord, kindFor, Line, pickLine, lineAt, queued, queuedOn, queueIn, isDone, Ready, Moved}
 use Rattle.resolution.specs.Known.{Tables}
@@ -67,20 +67,14 @@ module _ (w : Inputs) (i : Input) where
       n : ℕ
       n = suc (recordMore t)
 
-      b : n ≤ length t
-      b = leb-true n (length t) e
+      head : Front t
+      head = front-of t e
 
       f : List ℕ
       f = take n t
 
       u : List ℕ
       u = drop n t
-
-      long : length f ≡ n
-      long = length-take-le n t b
-
-      size : length (bodyOf f) ≡ sizeOf t
-      size = rw (body-front t) (length-take-le (sizeOf t) (drop 4 t) (rw length-drop (omega (arith, b))))
 
       go : (off start len : ℕ) (next : Cursor) (l : Line) (c : Bool) → isOf K f ≡ c
           → pickNext (isOf K f) (Body (off + 4) (length (bodyOf f)) (record { at = off + length f })) (nextIn K (off + length f) (records u)) ≡ Body start len next
@@ -93,13 +87,13 @@ module _ (w : Inputs) (i : Input) where
           let en : record { at = off + length f } ≡ next = cc in
           let ea : next .at ≡ off + length f = sym (ap (λ (c : Cursor). c .at) en) in
           let d : start - off ≡ 4 = omega arith in
-          let g : next .at - off ≡ n = omega (arith, long) in
-          (omega arith, omega (arith, ea, long, size), rw (records-cons t e, of-kind off f (records u) l ec, d, g, ← es, ← el, size, body-front t, ea))
+          let g : next .at - off ≡ n = omega (arith, head .long) in
+          (omega arith, omega (arith, ea, head .long, head .size), rw (records-cons t e, of-kind off f (records u) l ec, d, g, ← es, ← el, head .size, body-front t, ea))
       go off start len next l false ec h =
           let p = ih .turns (off + length f) start len next l (rw ec at h) in
-          let d : n + (start - (off + n)) ≡ start - off = omega (arith, p .0, long) in
-          let g : n + (next .at - (off + n)) ≡ next .at - off = omega (arith, p .0, p .1, long) in
-          (omega (arith, p .0), p .1, rw (records-cons t e, of-other off f (records u) l ec) (p .2 ∙ rw (long, drop-drop (start - (off + n)) n t, drop-drop (next .at - (off + n)) n t, d, g)))
+          let d : n + (start - (off + n)) ≡ start - off = omega (arith, p .0, head .long) in
+          let g : n + (next .at - (off + n)) ≡ next .at - off = omega (arith, p .0, p .1, head .long) in
+          (omega (arith, p .0), p .1, rw (records-cons t e, of-other off f (records u) l ec) (p .2 ∙ rw (head .long, drop-drop (start - (off + n)) n t, drop-drop (next .at - (off + n)) n t, d, g)))
 
   turn : (t : List ℕ) → Turns t
   turn = records-ind Turns turns-stop turns-more

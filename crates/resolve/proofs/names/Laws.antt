@@ -8,7 +8,7 @@ use Rattle.records.specs.Record.{nextOf}
 use Rattle.records.specs.declared.record.Cursor.{Cursor}
 use Rattle.records.specs.declared.record.Kind.{Kind}
 use Rattle.records.specs.declared.record.Next.{Next}
-use Rattle.records.specs.declared.record.Next.the-variants.{Body, Nothing}
+use Rattle.records.specs.declared.record.Next.the-variants.{Body}
 use Rattle.records.proofs.record.Bodies.{next-room, next-later, next-less, body-room}
 
 -- the walk is at `at`, and the table, which was t, has the first `count` names: a record takes four bytes at least
