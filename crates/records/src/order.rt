@@ -104,7 +104,7 @@ pub fn contains(s: &[u8], table: &[usize], count: usize, name: &[u8]) -> bool
     requires { ⌜ isOrdered (map (nameIn (now s)) (take count (now table))) ≡ true ⌝ }
     ensures { λ r. ⌜ r ≡ memName (now (name .entry)) (map (nameIn (now (s .entry))) (take count (now (table .entry)))) ⌝ }
 {
-    let at = place(s, table, count, name);
+    let at = place_by_halves(s, table, count, name);
     stands_at(s, table, count, at, name)
 }
 
