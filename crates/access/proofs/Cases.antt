@@ -55,5 +55,6 @@ ten-cases = record {
   case8 = case-8;
   case9-reads = case9-reads;
   case9 = case9;
-  case10 = byte-case10;
+  case10 = byte-case10 .outcome;
+  case10-reads = byte-case10 .reads-are;
 }

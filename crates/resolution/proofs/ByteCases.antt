@@ -23,7 +23,7 @@ use Rattle.resolution.specs.Resolution as Resolution
 use Rattle.resolution.specs.Resolve.{bodyStart, absentOf, errorOf, refused, told, answered, resolve}
 use Rattle.resolution.specs.declared.resolve.Outcome.the-variants.{Accepted}
 use Rattle.resolution.specs.declared.resolve.Resolution as Declared
-use Rattle.resolution.proofs.Cases.{case1-modules, case1-reads, case1-owners, case2, case3, case4, case5, case10}
+use Rattle.resolution.proofs.Cases.{case1-modules, case1-reads, case1-owners, case2, case3, case4, case5, case10, case10-modules}
 use Rattle.resolution.specs.Cases.{membersOf, readsOf, ownersOf, moduleOf, requirement, request, a, b, javaLang, baseModule, cycle, pages, pageCore, pageFoot, pageFrames, reader, footPackage, framePackage, baseSet, listingSet, cycleSet, listingRequest, rootA, rootANothingPermitted}
 
 -- one line opens all that decoding and the checks use
@@ -158,8 +158,18 @@ byte-case5 = record { outcome = outcome-of baseSet rootANothingPermitted 1 [] ja
     members = ap membersOf (base-resolved rootANothingPermitted (request (a ∷ []) (some [])) limited-request) ∙ case5
 
 -- (10) java.base, root a, a and b requiring each other transitively: both read themselves
-pub byte-case10 : readsOf (requestOf rootA) (resolved cycleSet rootA) ≡ (a, a ∷ b ∷ javaBase ∷ []) ∷ (b, a ∷ b ∷ javaBase ∷ []) ∷ (javaBase, []) ∷ []
-byte-case10 =
-    ap (λ (r : Request). readsOf r (resolved cycleSet rootA)) root-request
-    ∙ ap (readsOf (request (a ∷ []) none)) (ap (λ (m : List Descriptor). Resolution.resolve m (requestOf rootA)) cycle-modules ∙ ap (Resolution.resolve cycle) root-request)
-    ∙ case10
+pub record Cycle (s q : List ℕ) : Type 0 where
+  pub outcome : resolve s q .outcome ≡ Accepted
+  pub reads-are : readsOf (requestOf q) (resolved s q) ≡ (a, a ∷ b ∷ javaBase ∷ []) ∷ (b, a ∷ b ∷ javaBase ∷ []) ∷ (javaBase, []) ∷ []
+
+cycle-resolved : resolved cycleSet rootA ≡ Resolution.resolve cycle (request (a ∷ []) none)
+cycle-resolved = ap (λ (m : List Descriptor). Resolution.resolve m (requestOf rootA)) cycle-modules ∙ ap (Resolution.resolve cycle) root-request
+
+pub byte-case10 : Cycle cycleSet rootA
+byte-case10 = record {
+  outcome = outcome-of cycleSet rootA 3 (b ∷ javaBase ∷ []) a taken (ap membersOf cycle-resolved ∙ case10-modules);
+  reads-are = ap (λ (r : Request). readsOf r (resolved cycleSet rootA)) root-request ∙ ap (readsOf (request (a ∷ []) none)) cycle-resolved ∙ case10;
+}
+  where
+    taken : checkInputs cycleSet rootA .answer ≡ Set.Modules 3
+    taken = unfold check in refl

@@ -58,6 +58,10 @@ pub case10 : readsOf (request (a ∷ []) none) (resolve cycle (request (a ∷ []
 unfolding run
 case10 = refl
 
+pub case10-modules : membersOf (resolve cycle (request (a ∷ []) none)) ≡ a ∷ b ∷ javaBase ∷ []
+unfolding run
+case10-modules = refl
+
 -- refusal 7: a has the packages c, b, a; b, which it requires, has c and b. The first in byte order is b, its owner a, the second b.
 pub split-case : resolve (baseModule ∷ moduleOf a (requirement b false ∷ []) [] [] (c ∷ b ∷ a ∷ []) ∷ moduleOf b [] [] [] (c ∷ b ∷ []) ∷ []) (request (a ∷ []) none)
     ≡ failed (splitPackage b a b)

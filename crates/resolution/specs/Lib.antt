@@ -14,9 +14,10 @@ pub mod Resolve
 pub mod Absent
 pub mod PackageOwner
 pub mod Cases
+-- A search by names that calls itself. proofs/Visit shows that it finds what transitive requirements reach.
+pub mod Visit
 -- The forms that the code follows, and what private functions promise. proofs/ shows that they say the same.
 pub mod Short
-pub mod Visit
 pub mod Resolver
 pub mod Filter
 pub mod Lookup
