@@ -26,8 +26,8 @@ pub fn and(a: bool, b: bool) -> bool
     false
 }
 
-// Whether the n bytes of a from `at` on are those of b. There is no early exit, so that the compiler can take all of them at once where n
-// is a constant.
+// Whether the n bytes of a from `at` on are those of b. There is no early exit, so that the compiler can take all of them at once
+// where n is a constant.
 fn same_in(a: &[u8], b: &[u8], at: usize, n: usize) -> bool
     requires { ⌜ at + n ≤ length (now a) ⌝ }
     requires { ⌜ at + n ≤ length (now b) ⌝ }
@@ -42,8 +42,8 @@ fn same_in(a: &[u8], b: &[u8], at: usize, n: usize) -> bool
     equal
 }
 
-// Whether a and b hold the same bytes. The lengths are compared first. 16 or more bytes are taken 16 at a time, and fewer than 16, but 8 at
-// least, 8 at a time; the last part may have bytes in common with the one before it.
+// Whether a and b hold the same bytes. The lengths are compared first. 16 or more bytes are taken 16 at a time, and fewer than 16,
+// but 8 at least, 8 at a time; the last part may have bytes in common with the one before it.
 pub fn same(a: &[u8], b: &[u8]) -> bool
     ensures { λ r. ⌜ r ≡ sameBytes (now (a .entry)) (now (b .entry)) ⌝ }
 {

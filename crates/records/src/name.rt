@@ -29,8 +29,8 @@ fn and_printable(good: bool, b: u8) -> bool
     and_le(and_le(good, 0x21, b), b, 0x7E)
 }
 
-// Whether the n bytes of s from `at` on are printable. There is no early exit, so that the compiler can take all of them at once where n
-// is a constant.
+// Whether the n bytes of s from `at` on are printable. There is no early exit, so that the compiler can take all of them at once
+// where n is a constant.
 fn printable_in(s: &[u8], at: usize, n: usize) -> bool
     requires { ⌜ at + n ≤ length (now s) ⌝ }
     ensures { λ r. ⌜ r ≡ isPrintable (take n (drop at (now (s .entry)))) ⌝ }
@@ -44,8 +44,8 @@ fn printable_in(s: &[u8], at: usize, n: usize) -> bool
     good
 }
 
-// Whether every byte of s is from 0x21 to 0x7E. The bytes are taken 16 at a time, or 8 or 4 where there are fewer than 16 or 8; the last
-// part may have bytes in common with the one before it.
+// Whether every byte of s is from 0x21 to 0x7E. The bytes are taken 16 at a time, or 8 or 4 where there are fewer than 16 or 8;
+// the last part may have bytes in common with the one before it.
 pub fn printable(s: &[u8]) -> bool
     ensures { λ r. ⌜ r ≡ isPrintable (now (s .entry)) ⌝ }
 {

@@ -189,8 +189,8 @@ fn provide(
     line
 }
 
-// The providers of a round are queued. Those of services that the first `bound` modules use are there; and nothing is to be done where
-// every module of the set is.
+// The providers of a round are queued. Those of services that the first `bound` modules use are there; and nothing is to be done
+// where every module of the set is.
 pub fn bind(
     set: &[u8],
     starts: &[usize],
