@@ -8,6 +8,7 @@ use Rattle.records.specs.Name.{javaBase}
 use Rattle.records.specs.Request.{requestOf}
 use Rattle.records.specs.Set.{modules}
 use Rattle.records.specs.Automatic.{derived, derivedName}
+use Rattle.records.specs.Cases.{footNotesJar, footNotes, versionsJar, onlyJar}
 use Rattle.records.specs.declared.automatic.Named.the-variants.{Valid}
 use Rattle.records.specs.declared.automatic.Named.the-variants as Named
 use Rattle.records.specs.declared.error.Input.the-variants as Input
@@ -35,19 +36,6 @@ rootC = 82 ∷ 84 ∷ 0 ∷ 2 ∷ 1 ∷ 99 ∷ []
 -- the package p
 unfoldable pub p : Name
 p = 112 ∷ []
-
--- "foot-notes-2.4.jar", "foot.notes", "a-1-2.jar", ".jar"
-abbrev pub footNotesJar : List ℕ
-footNotesJar = 102 ∷ 111 ∷ 111 ∷ 116 ∷ 45 ∷ 110 ∷ 111 ∷ 116 ∷ 101 ∷ 115 ∷ 45 ∷ 50 ∷ 46 ∷ 52 ∷ 46 ∷ 106 ∷ 97 ∷ 114 ∷ []
-
-abbrev pub footNotes : List ℕ
-footNotes = 102 ∷ 111 ∷ 111 ∷ 116 ∷ 46 ∷ 110 ∷ 111 ∷ 116 ∷ 101 ∷ 115 ∷ []
-
-abbrev pub versionsJar : List ℕ
-versionsJar = 97 ∷ 45 ∷ 49 ∷ 45 ∷ 50 ∷ 46 ∷ 106 ∷ 97 ∷ 114 ∷ []
-
-abbrev pub onlyJar : List ℕ
-onlyJar = 46 ∷ 106 ∷ 97 ∷ 114 ∷ []
 
 -- what the modules of a set resolve to with a request
 abbrev pub resolved : List ℕ → List ℕ → Result State Refusal

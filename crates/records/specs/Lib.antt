@@ -12,3 +12,5 @@ pub mod Output
 pub mod Record
 pub mod Request
 pub mod Set
+-- Examples that the ten cases name.
+pub mod Cases

@@ -1,28 +1,11 @@
 -- The cases 6, 7 and 8 of document 01, by computation.
-use Prim.Native.Nat.{ℕ}
 use mathlib.Core.Path.{_≡_, refl}
-use mathlib.Core.List.{List, [], _∷_}
 use Rattle.records.specs.Bytes.{sameBytes}
 use Rattle.records.specs.Name.{isEmpty}
 use Rattle.records.specs.Automatic.{isDigit, isLetter, isAlphanumeric, isStart, hasByte, afterLast, fileName, withoutJar, startsVersion, hasVersion, withoutVersion, dottedFrom, dotted, trimFront, trimEnd, trimmed, derivedName, isRest, isPart, inFront, partsOf, allParts, isModuleName, validated, derived}
+use Rattle.records.specs.Cases.{footNotesJar, footNotes, versionsJar, onlyJar}
 use Rattle.records.specs.declared.automatic.Named.the-variants.{Valid, Refused}
 use Rattle.records.specs.declared.error.ModuleError.the-variants.{InvalidAutomaticModuleName, InvalidModuleName}
-
--- "foot-notes-2.4.jar"
-abbrev pub footNotesJar : List ℕ
-footNotesJar = 102 ∷ 111 ∷ 111 ∷ 116 ∷ 45 ∷ 110 ∷ 111 ∷ 116 ∷ 101 ∷ 115 ∷ 45 ∷ 50 ∷ 46 ∷ 52 ∷ 46 ∷ 106 ∷ 97 ∷ 114 ∷ []
-
--- "foot.notes"
-abbrev pub footNotes : List ℕ
-footNotes = 102 ∷ 111 ∷ 111 ∷ 116 ∷ 46 ∷ 110 ∷ 111 ∷ 116 ∷ 101 ∷ 115 ∷ []
-
--- "a-1-2.jar"
-abbrev pub versionsJar : List ℕ
-versionsJar = 97 ∷ 45 ∷ 49 ∷ 45 ∷ 50 ∷ 46 ∷ 106 ∷ 97 ∷ 114 ∷ []
-
--- ".jar"
-abbrev pub onlyJar : List ℕ
-onlyJar = 46 ∷ 106 ∷ 97 ∷ 114 ∷ []
 
 pub case-6-name : derivedName footNotesJar ≡ footNotes
 unfolding sameBytes isEmpty isDigit isLetter isAlphanumeric hasByte afterLast fileName withoutJar startsVersion hasVersion withoutVersion dottedFrom dotted trimFront trimEnd trimmed derivedName
