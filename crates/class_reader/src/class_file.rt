@@ -193,30 +193,8 @@ fn write_ordered(
     write_fitted(file, pool, seen, size, table, count, out)
 }
 
-// The same, for few packages.
-fn write_few(file: &[u8], pool: &[u16], seen: Seen, size: usize, out: &mut [u8]) -> Written
-    requires { ⌜ length (now file) ≤ 65535 ⌝ }
-    requires { ⌜ Readable (now file) (now pool) seen ⌝ }
-    requires { ⌜ packageCount (now file) (seen .packages) ≤ 1024 ⌝ }
-    requires { ⌜ Sized (now file) (now pool) seen size ⌝ }
-    ensures { λ r. ⌜ ItemsFitted (descriptorItems (now (file .entry)) (now (pool .entry)) seen) (now (out .entry)) (now (out .exit)) r ⌝ }
-{
-    let mut table = [0usize; 1024];
-    write_ordered(file, pool, seen, size, &mut table, out)
-}
-
-// The same, for as many as a file can have.
-fn write_many(file: &[u8], pool: &[u16], seen: Seen, size: usize, out: &mut [u8]) -> Written
-    requires { ⌜ length (now file) ≤ 65535 ⌝ }
-    requires { ⌜ Readable (now file) (now pool) seen ⌝ }
-    requires { ⌜ Sized (now file) (now pool) seen size ⌝ }
-    ensures { λ r. ⌜ ItemsFitted (descriptorItems (now (file .entry)) (now (pool .entry)) seen) (now (out .entry)) (now (out .exit)) r ⌝ }
-{
-    let mut table = [0usize; 32768];
-    write_ordered(file, pool, seen, size, &mut table, out)
-}
-
-// Writes the records of the descriptor, if no body is too long and the output has room; m is what its Module attribute measures.
+// Writes the records of the descriptor, if no body is too long and the output has room; m is what its Module attribute measures. The
+// table has room for the packages: a small one is made sooner.
 fn write_descriptor(file: &[u8], pool: &[u16], seen: Seen, m: Measured, out: &mut [u8]) -> Written
     requires { ⌜ length (now file) ≤ 65535 ⌝ }
     requires { ⌜ Readable (now file) (now pool) seen ⌝ }
@@ -228,9 +206,11 @@ fn write_descriptor(file: &[u8], pool: &[u16], seen: Seen, m: Measured, out: &mu
         return Written::Refused(ModuleError::TooLarge(0));
     }
     if package_count(file, seen.packages) <= 1024 {
-        return write_few(file, pool, seen, m.size, out);
+        let mut table = [0usize; 1024];
+        return write_ordered(file, pool, seen, m.size, &mut table, out);
     }
-    write_many(file, pool, seen, m.size, out)
+    let mut table = [0usize; 32768];
+    write_ordered(file, pool, seen, m.size, &mut table, out)
 }
 
 // Reads what stands behind a pool that ends at `at`.
@@ -262,23 +242,16 @@ fn read_pool(file: &[u8], table: &mut [u16], out: &mut [u8]) -> Written
     }
 }
 
-// The same, for few constants.
-fn read_few(file: &[u8], out: &mut [u8]) -> Written
-    requires { ⌜ length (now file) ≤ 65535 ⌝ }
-    requires { ⌜ headGood (now file) ≡ true ⌝ }
-    requires { ⌜ poolCount (now file) ≤ 2048 ⌝ }
-    ensures { λ r. ⌜ PoolRead (now (file .entry)) (poolOf (now (file .entry))) (poolEnd (now (file .entry))) (now (out .entry)) (now (out .exit)) r ⌝ }
-{
-    let mut table = [0u16; 2048];
-    read_pool(file, &mut table, out)
-}
-
-// The same, for as many as a file can have.
-fn read_many(file: &[u8], out: &mut [u8]) -> Written
+// The same, with a table for as many constants as there are: a small one is made sooner.
+fn read_constants(file: &[u8], out: &mut [u8]) -> Written
     requires { ⌜ length (now file) ≤ 65535 ⌝ }
     requires { ⌜ headGood (now file) ≡ true ⌝ }
     ensures { λ r. ⌜ PoolRead (now (file .entry)) (poolOf (now (file .entry))) (poolEnd (now (file .entry))) (now (out .entry)) (now (out .exit)) r ⌝ }
 {
+    if be16(file, 8) <= 2048 {
+        let mut table = [0u16; 2048];
+        return read_pool(file, &mut table, out);
+    }
     let mut table = [0u16; 21846];
     read_pool(file, &mut table, out)
 }
@@ -293,8 +266,5 @@ pub fn from_class_file(file: &[u8], out: &mut [u8]) -> Written
     if !head_good(file) {
         return Written::Refused(ModuleError::DescriptorParseError(0));
     }
-    if be16(file, 8) <= 2048 {
-        return read_few(file, out);
-    }
-    read_many(file, out)
+    read_constants(file, out)
 }

@@ -52,36 +52,18 @@ fn write_in_order(name: &[u8], packages: &[u8], table: &mut [usize], out: &mut [
     write_ordered(name, packages, table, count, out)
 }
 
-// The same, for few packages.
-fn write_few(name: &[u8], packages: &[u8], out: &mut [u8]) -> Written
-    requires { ⌜ length (now name) ≤ 255 ⌝ }
-    requires { ⌜ length (now packages) ≤ 1024 ⌝ }
-    ensures { λ r. ⌜ Fitted (now (name .entry)) (now (packages .entry)) (now (out .entry)) (now (out .exit)) r ⌝ }
-{
-    let mut table = [0usize; 256];
-    write_in_order(name, packages, &mut table, out)
-}
-
-// The same, for as many as package records can tell.
-fn write_many(name: &[u8], packages: &[u8], out: &mut [u8]) -> Written
-    requires { ⌜ length (now name) ≤ 255 ⌝ }
-    requires { ⌜ length (now packages) ≤ 65535 ⌝ }
-    ensures { λ r. ⌜ Fitted (now (name .entry)) (now (packages .entry)) (now (out .entry)) (now (out .exit)) r ⌝ }
-{
-    let mut table = [0usize; 16384];
-    write_in_order(name, packages, &mut table, out)
-}
-
-// The same: a small table is made sooner.
+// The same, with a table for as many packages as the records can tell: a small one is made sooner.
 fn write_fitted(name: &[u8], packages: &[u8], out: &mut [u8]) -> Written
     requires { ⌜ length (now name) ≤ 255 ⌝ }
     requires { ⌜ length (now packages) ≤ 65535 ⌝ }
     ensures { λ r. ⌜ Fitted (now (name .entry)) (now (packages .entry)) (now (out .entry)) (now (out .exit)) r ⌝ }
 {
     if packages.len() <= 1024 {
-        return write_few(name, packages, out);
+        let mut table = [0usize; 256];
+        return write_in_order(name, packages, &mut table, out);
     }
-    write_many(name, packages, out)
+    let mut table = [0usize; 16384];
+    write_in_order(name, packages, &mut table, out)
 }
 
 // The same for a name that the manifest gives.

@@ -97,77 +97,7 @@ fn rounds(
     line
 }
 
-// The rounds of a small set, with a table for the services of a round.
-fn few_rounds(
-    set: &[u8],
-    request: &[u8],
-    starts: &[usize],
-    old: &[usize],
-    phase: Phase,
-    index: &[u16],
-    names: &[usize],
-    needed: &[usize],
-    order: &mut [usize],
-    packages: &mut [u64],
-    q: Queue,
-) -> Queue
-    requires { ⌜ Tables (now set) (now request) (now starts) (now old) phase (now index) (now names) (now needed) ⌝ }
-    requires { ⌜ Running (phase .count) (now set) (now starts) (now order) (now packages) q ⌝ }
-    ensures { λ r. ⌜ Moved (phase .count) (now (order .exit)) r (roundsAt (inputsOf (now (set .entry)) (now (request .entry)) (now (starts .entry)) (now (old .entry)) phase) (suc (phase .count)) (lineAt (now (order .entry)) q)) ⌝ }
-{
-    let mut table = [0usize; 1024];
-    rounds(
-        set,
-        request,
-        starts,
-        old,
-        phase,
-        index,
-        names,
-        needed,
-        order,
-        packages,
-        &mut table,
-        q,
-    )
-}
-
-// The same of a large one.
-fn many_rounds(
-    set: &[u8],
-    request: &[u8],
-    starts: &[usize],
-    old: &[usize],
-    phase: Phase,
-    index: &[u16],
-    names: &[usize],
-    needed: &[usize],
-    order: &mut [usize],
-    packages: &mut [u64],
-    q: Queue,
-) -> Queue
-    requires { ⌜ Tables (now set) (now request) (now starts) (now old) phase (now index) (now names) (now needed) ⌝ }
-    requires { ⌜ Running (phase .count) (now set) (now starts) (now order) (now packages) q ⌝ }
-    ensures { λ r. ⌜ Moved (phase .count) (now (order .exit)) r (roundsAt (inputsOf (now (set .entry)) (now (request .entry)) (now (starts .entry)) (now (old .entry)) phase) (suc (phase .count)) (lineAt (now (order .entry)) q)) ⌝ }
-{
-    let mut table = [0usize; 8192];
-    rounds(
-        set,
-        request,
-        starts,
-        old,
-        phase,
-        index,
-        names,
-        needed,
-        order,
-        packages,
-        &mut table,
-        q,
-    )
-}
-
-// The rounds. A set of up to 4,096 bytes has room for fewer than 1,024 services.
+// The same, with a table for the services of a round. A set of up to 4,096 bytes has room for fewer than 1,024.
 fn all_rounds(
     set: &[u8],
     request: &[u8],
@@ -186,7 +116,8 @@ fn all_rounds(
     ensures { λ r. ⌜ Moved (phase .count) (now (order .exit)) r (roundsAt (inputsOf (now (set .entry)) (now (request .entry)) (now (starts .entry)) (now (old .entry)) phase) (suc (phase .count)) (lineAt (now (order .entry)) q)) ⌝ }
 {
     if set.len() <= 4096 {
-        return few_rounds(
+        let mut table = [0usize; 1024];
+        return rounds(
             set,
             request,
             starts,
@@ -197,10 +128,12 @@ fn all_rounds(
             needed,
             order,
             packages,
+            &mut table,
             q,
         );
     }
-    many_rounds(
+    let mut table = [0usize; 8192];
+    rounds(
         set,
         request,
         starts,
@@ -211,6 +144,7 @@ fn all_rounds(
         needed,
         order,
         packages,
+        &mut table,
         q,
     )
 }

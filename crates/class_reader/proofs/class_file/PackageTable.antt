@@ -149,7 +149,10 @@ table-ordered f t s n before after r en l o = record {
 
 pub ruleset order-laws = (order-short, order-place, order-room, table-ordered)
 
--- the table of as many as a file can have
+-- a table has room: for the few that there are, or for as many as a file can have
+pub few-room : (f : List ℕ) (at n : ℕ) (table : List ℕ) → n ≡ packageCount f at → n ≤ 1024 → 1024 ≤ length table → packageCount f at ≤ length table
+few-room f at n table e l k = omega (arith, e)
+
 pub many-room : (f t : List ℕ) (s : Seen) (table : List ℕ) → Readable f t s → length f ≤ 65535 → 32768 ≤ length table
     → packageCount f (s .packages) ≤ length table
 many-room f t s table h l k = omega (arith, count-few f t s h l)

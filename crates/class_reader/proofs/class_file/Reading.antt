@@ -2,7 +2,7 @@
 use Prim.Native.Nat.{ℕ, _+_, _≤_, _<_}
 use mathlib.Core.Path.{_≡_, refl, sym, _∙_}
 use mathlib.Core.List.{List, []}
-use mathlib.Core.Bool.{Bool, true, false, not, _&&_, _||_}
+use mathlib.Core.Bool.{Bool, true, false, not, _&&_, _||_, or-true}
 use native.Mathlib.Omega.{arith}
 use lib.ListN.{length, take}
 use lib.Seq.{length-take-le}
@@ -131,17 +131,18 @@ module _ (f : List ℕ) (n : ℕ) (en : n ≡ u16At f 8) where
 
 pub ruleset pool-laws = (head-long, head-some, pool-room, pool-fault, pool-within, pool-part, pool-low, pool-read)
 
-pub table-few : (f t : List ℕ) → poolCount f ≤ 2048 → 2048 ≤ length t → leb (poolCount f) (length t) || leb 21846 (length t) ≡ true
-table-few f t l k = rw (le-leb (poolCount f) (length t) (omega arith))
+-- a table has room: for the few constants that there are, or for as many as a file can have
+pub table-few : (f t : List ℕ) (n : ℕ) → n ≡ u16At f 8 → n ≤ 2048 → 2048 ≤ length t → leb (poolCount f) (length t) || leb 21846 (length t) ≡ true
+unfolding poolCount
+table-few f t n e l k = rw (le-leb (u16At f 8) (length t) (omega (arith, e)))
 
 pub table-many : (f t : List ℕ) → 21846 ≤ length t → leb (poolCount f) (length t) || leb 21846 (length t) ≡ true
-table-many f t k = rw (le-leb 21846 (length t) k) (go (leb (poolCount f) (length t)))
-  where
-    go : (b : Bool) → b || true ≡ true
-    go true = refl
-    go false = refl
+table-many f t k = rw (le-leb 21846 (length t) k) (or-true (leb (poolCount f) (length t)))
 
 -- ---- the whole
+
+pub class-good : (f : List ℕ) (b : Bool) → b ≡ headGood f → not b ≡ false → headGood f ≡ true
+class-good f b eb e = sym eb ∙ not-false b e
 
 module _ (f o : List ℕ) where
   pub class-long : 65535 < length f → ClassRead f o o (Refused (TooLarge 0))
@@ -153,16 +154,8 @@ module _ (f o : List ℕ) where
     unfolding classAnswer outputAfter
     class-head e = record { answer = sym (rw (le-ltb 65535 (length f) l) (Lowest.head-bad f _ (sym eb ∙ not-true b e))); output = refl }
 
-    module _ (e : not b ≡ false) where
-      pub class-good : headGood f ≡ true
-      class-good = sym eb ∙ not-false b e
+    pub class-read : not b ≡ false → (o₁ : List ℕ) (r : Written) → PoolRead f (poolOf f) (poolEnd f) o o₁ r → ClassRead f o o₁ r
+    unfolding classAnswer itemsOf
+    class-read e o₁ r p = record { answer = p .answer ∙ sym (rw (le-ltb 65535 (length f) l, Lowest.head-passed f (class-good f b eb e))); output = p .output }
 
-      pub class-read : (o₁ : List ℕ) (r : Written) → PoolRead f (poolOf f) (poolEnd f) o o₁ r → ClassRead f o o₁ r
-      unfolding classAnswer itemsOf
-      class-read o₁ r p = record { answer = p .answer ∙ sym (rw (le-ltb 65535 (length f) l, Lowest.head-passed f class-good)); output = p .output }
-
-pub class-few : (f : List ℕ) (n : ℕ) → n ≡ u16At f 8 → n ≤ 2048 → poolCount f ≤ 2048
-unfolding poolCount
-class-few f n e l = rw (← e) l
-
-pub ruleset class-laws = (class-long, class-head, class-good, class-read, class-few)
+pub ruleset class-laws = (class-long, class-head, class-good, class-read)

@@ -114,7 +114,4 @@ module _ (f t : List ℕ) (s : Seen) (h : Readable f t s) (m : Measured) (em : m
     unfolding sized
     read-fitted o o₁ r i = record { answer = i .answer ∙ sym (rw (narrow, e)); output = i .output }
 
-pub few-packages : (f : List ℕ) (at n : ℕ) → n ≡ packageCount f at → n ≤ 1024 → packageCount f at ≤ 1024
-few-packages f at n e l = rw (← e) l
-
-pub ruleset descriptor-laws = (read-large, read-sized, read-fitted, few-packages)
+pub ruleset descriptor-laws = (read-large, read-sized, read-fitted)

@@ -8,12 +8,8 @@ from-class-file-spec =
     tie.close
     (tie.spec
     (λ c. search (class-laws, needs))
-    (λ c κs. search (class-laws, needs))
+    (λ c κs. search needs)
     (λ c. search (class-laws, needs))
     (λ c κs. search (class-laws, needs))
-    (λ c κs. search (class-laws, needs))
-    (λ c. search (class-laws, needs))
-    (λ c. search (class-laws, needs))
-    (λ c κs. search (class-laws, needs))
-    (λ c. search (class-laws, needs))
+    (λ c. search needs)
     (λ c. search (class-laws, needs)))
