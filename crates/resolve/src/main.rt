@@ -6,9 +6,9 @@ ghost use lib.ListN.{length};
 use libc::STDOUT_FILENO;
 use names::in_order;
 use names::module_of;
-use names::name_in;
 use names::place;
 use records::finder::name_at;
+use records::order::name_in;
 use records::record::Kind;
 use records::set::check_set;
 use resolution::configuration::Configuration;
@@ -41,9 +41,9 @@ fn list_row(set: &[u8], starts: &[usize], names: &[usize], from: usize, to: usiz
 {
     let mut k = from;
     while k < to {
-        let at = names[k];
-        if has(row, module_of(starts, at)) {
-            line(b"reads ", name_in(set, at));
+        let entry = names[k];
+        if has(row, module_of(starts, entry)) {
+            line(b"reads ", name_in(set, entry));
         }
         k += 1;
     }
@@ -67,9 +67,9 @@ fn list_modules(set: &[u8], starts: &[usize], names: &[usize], count: usize, c: 
 {
     let mut k: usize = 0;
     while k < count {
-        let at = names[k];
-        line(b"module ", name_in(set, at));
-        let i = module_of(starts, at);
+        let entry = names[k];
+        line(b"module ", name_in(set, entry));
+        let i = module_of(starts, entry);
         let words = c.unnamed;
         list_reads(
             set,
@@ -97,10 +97,10 @@ fn list_owners(set: &[u8], starts: &[usize], packages: &[usize], count: usize)
 {
     let mut k: usize = 0;
     while k < count {
-        let at = packages[k];
+        let entry = packages[k];
         say(b"owner ");
-        say(name_in(set, at));
-        line(b" ", module_name(set, starts, module_of(starts, at)));
+        say(name_in(set, entry));
+        line(b" ", module_name(set, starts, module_of(starts, entry)));
         k += 1;
     }
 }

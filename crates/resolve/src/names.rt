@@ -1,24 +1,19 @@
-// Names of a set in byte order, as a table: where each stands in the set, at its length byte.
-ghost use mathlib.Core.Path.{_≡_};
-ghost use Prim.Native.Nat.{_+_, _≤_, _<_};
+// Names of a set in byte order, as a table of entries of `records::order`, and the modules that they stand in.
+ghost use Prim.Native.Nat.{_≤_, _<_};
 ghost use lib.ListN.{length};
 use records::bytes::before;
-use records::bytes::same;
 use records::bytes::tail;
 use records::name::name_of;
+use records::order::insert;
+use records::order::name_in;
 use records::record::Cursor;
 use records::record::Kind;
 use records::record::Next;
 use resolution::row::Row;
 use resolution::row::has;
 
-// The name that stands here.
-pub fn name_in(set: &[u8], at: usize) -> &[u8] {
-    name_of(tail(set, at))
-}
-
-// The position of the module that has the record here: the last one that starts at or before it.
-pub fn module_of(starts: &[usize], at: usize) -> usize {
+// The position of the module that has the byte at `at`: the last one that starts at or before it.
+fn module_at(starts: &[usize], at: usize) -> usize {
     let mut next: usize = 1;
     while next < starts.len() {
         if at < starts[next] {
@@ -29,60 +24,24 @@ pub fn module_of(starts: &[usize], at: usize) -> usize {
     next - 1
 }
 
-// How many of the first `count` names stand before this one in byte order: a binary search.
+// The position of the module that the name of this entry stands in.
+pub fn module_of(starts: &[usize], entry: usize) -> usize {
+    module_at(starts, entry / 65536)
+}
+
+// How many of the first `count` names stand before this one in byte order.
 pub fn place(set: &[u8], table: &[usize], count: usize, name: &[u8]) -> usize
     requires { ⌜ count ≤ length (now table) ⌝ }
     ensures { λ r. ⌜ r ≤ count ⌝ }
 {
-    let mut low: usize = 0;
-    let mut high = count;
-    while low < high {
-        let middle = low + (high - low) / 2;
-        if before(name_in(set, table[middle]), name) {
-            low = middle + 1;
-        } else {
-            high = middle;
+    let mut k: usize = 0;
+    while k < count {
+        if !before(name_in(set, table[k]), name) {
+            return k;
         }
+        k += 1;
     }
-    low
-}
-
-// Whether the name stands at `at`, among the first `count`.
-fn stands_at(set: &[u8], table: &[usize], count: usize, at: usize, name: &[u8]) -> bool
-    requires { ⌜ count ≤ length (now table) ⌝ }
-{
-    if at < count {
-        return same(name, name_in(set, table[at]));
-    }
-    false
-}
-
-// Moves the entries from `from` up to `count` up by one.
-fn shift(table: &mut [usize], from: usize, count: usize)
-    requires { ⌜ count < length (now table) ⌝ }
-    ensures { λ _. ⌜ length (now (table .exit)) ≡ length (now (table .entry)) ⌝ }
-{
-    let mut j = count;
-    while from < j {
-        table[j] = table[j - 1];
-        j -= 1;
-    }
-}
-
-// Puts the name that stands at `at` where it belongs among the first `count`, unless it is there; returns their number.
-fn insert(set: &[u8], table: &mut [usize], count: usize, at: usize) -> usize
-    requires { ⌜ count < length (now table) ⌝ }
-    ensures { λ r. ⌜ length (now (table .exit)) ≡ length (now (table .entry)) ⌝ }
-    ensures { λ r. ⌜ r ≤ count + 1 ⌝ }
-{
-    let name = name_in(set, at);
-    let i = place(set, table, count, name);
-    if stands_at(set, table, count, i, name) {
-        return count;
-    }
-    shift(table, i, count);
-    table[i] = at;
-    count + 1
+    count
 }
 
 // Fills the table with the names in the records of this kind of the modules in this row, in byte order without repeats, and
@@ -110,8 +69,10 @@ pub fn in_order(
                 next,
             } => {
                 c = next;
-                if has(modules, module_of(starts, start)) {
-                    count = insert(set, table, count, start + skip);
+                if has(modules, module_at(starts, start)) {
+                    let at = start + skip;
+                    let name = name_of(tail(set, at));
+                    count = insert(set, table, count, (at + 1) * 65536 + name.len());
                 }
             }
             Next::Nothing => {

@@ -4,10 +4,10 @@ use Rattle.resolve.proofs.names.place.Statement.{statement}
 use Rattle.resolve.proofs.names.place.Tie as tie
 
 abbrev Inv-loop : tie.InvT-loop
-Inv-loop set table count name low₀ high₀ low high = (low ≤ high) × (high ≤ count)
+Inv-loop set table count name k₀ k = k ≤ count
 
 abbrev μ-loop : tie.MeasureT-loop
-μ-loop set table count name low₀ high₀ low high = high - low
+μ-loop set table count name k₀ k = count - k
 
 pub place-spec : {M : Type 1} → statement M
 place-spec =
@@ -18,11 +18,8 @@ place-spec =
     (λ c. search needs)
     (λ c. search needs)
     (λ c. search needs)
-    (λ c. search needs)
-    (λ c. search needs)
     (λ c κs. search needs)
     (λ c κs. search needs)
-    (λ c. search needs)
     (λ c. search needs)
     (λ c. search needs)
     (λ c. search needs)
