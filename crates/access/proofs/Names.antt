@@ -2,7 +2,7 @@
 use mathlib.Core.Path.{_≡_, refl, sym, ap, _∙_, subst}
 use Prim.Native.Nat.{ℕ, _+_, _*_, _/_, _%_, _≤_, _<_}
 use native.Mathlib.Omega.{arith}
-use mathlib.Core.Bool.{Bool, true, false, _&&_, _||_}
+use mathlib.Core.Bool.{Bool, true, false, _&&_, _||_, or-false}
 use mathlib.Core.Option.{Option, none, some}
 use mathlib.Core.List.{List}
 use lib.ListN.{length}
@@ -17,7 +17,7 @@ use Rattle.records.specs.declared.finder.Found.{Found}
 use Rattle.records.specs.declared.finder.Found.the-variants.{At, Nothing}
 use Rattle.records.specs.declared.set.SetAnswer.{SetAnswer}
 use Rattle.records.specs.declared.set.SetAnswer.the-variants as Set
-use Rattle.records.proofs.Logic.{clash}
+use Rattle.records.proofs.Logic.{clash, by, true≠false}
 use Rattle.records.proofs.bytes.Laws.{same-eq}
 use Rattle.records.proofs.set.Blocks.{GoodSet, good-set}
 use Rattle.resolution.specs.Closed.{Accepted}
@@ -33,7 +33,6 @@ use Rattle.resolution.specs.Row.{holds}
 use Rattle.resolution.specs.declared.configuration.Configuration.{Configuration}
 use Rattle.resolution.specs.declared.resolve.Outcome.the-variants as Outcome
 use Rattle.resolution.proofs.Find.{find-mem, has-find, has-names, has-some}
-use Rattle.resolution.proofs.Lists.{by, true≠false}
 use Rattle.resolution.proofs.Positions.{Located, find-none}
 use Rattle.resolution.proofs.Sets.{set-length, set-accepted, set-located, set-not-located}
 use Rattle.resolution.proofs.WordBits.{holds-words}
@@ -98,10 +97,6 @@ module _ (S : List Descriptor) (long : length S ≤ 256) (rq : Request) (R : Lis
       row-bit (configurationOf S rq R .reads) i j (omega arith)
       ∙ holds-words (λ (k : ℕ). edgeAt S rq R (k / 256) (k % 256)) 1024 (i * 256 + j) (omega arith)
       ∙ rw (a, b, lt-ltb i (length S) l, lt-ltb j (length S) m)
-
-or-false : (b : Bool) → b || false ≡ b
-or-false true = refl
-or-false false = refl
 
 -- ---- reads of the modules resolved
 

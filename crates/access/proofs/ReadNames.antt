@@ -16,11 +16,11 @@ use Rattle.records.specs.declared.finder.Found.the-variants.{At, Nothing}
 use Rattle.records.proofs.bytes.Laws.{same-eq, same-refl}
 use Rattle.records.proofs.finder.Modules.{find-by-name, find-by-position}
 use Rattle.records.proofs.set.Blocks.{GoodSet}
+use Rattle.records.proofs.Logic.{by, true≠false, or-left, or-right}
 use Rattle.resolution.specs.Lists.{Name}
 use Rattle.resolution.specs.Row.{holds}
 use Rattle.resolution.specs.Graph.{edge}
 use Rattle.resolution.specs.declared.configuration.Configuration.{Configuration}
-use Rattle.resolution.proofs.Lists.{by, true≠false, or-l, or-r}
 use Rattle.resolution.proofs.Sets.{set-length}
 use Rattle.access.specs.Access.{heldAt, edgeTo, edgeFrom, isMember, readsName}
 use Rattle.access.specs.ReadGraph.{countsAt, isReader, readsAt, readsUnnamedAt}
@@ -29,8 +29,8 @@ use Rattle.access.specs.ReadGraph.{countsAt, isReader, readsAt, readsUnn
 own-name : (l : List Name) (j : ℕ) → j < length l → memName (getD l j []) l ≡ true
 unfolding memName
 own-name [] j h = absurd (omega arith)
-own-name (x ∷ l) zero h = or-l (sameBytes x x) (memName x l) (same-refl x)
-own-name (x ∷ l) (suc j) h = or-r (sameBytes x (getD l j [])) (memName (getD l j []) l) (own-name l j (omega arith))
+own-name (x ∷ l) zero h = or-left (sameBytes x x) (memName x l) (same-refl x)
+own-name (x ∷ l) (suc j) h = or-right (sameBytes x (getD l j [])) (memName (getD l j []) l) (own-name l j (omega arith))
 
 module _ (s : List ℕ) (n : ℕ) (t : List ℕ) (g : GoodSet s n t) (c : Configuration) where
   -- the name of the module at i

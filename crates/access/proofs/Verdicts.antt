@@ -9,10 +9,10 @@ use Rattle.records.specs.Descriptor.{Descriptor}
 use Rattle.records.specs.Name.{javaBase, allUnnamed, memName}
 use Rattle.records.specs.Request.{Request, hasGrant, requestOf, checkInputs}
 use Rattle.records.specs.declared.set.SetAnswer.the-variants as Set
-use Rattle.records.proofs.Logic.{clash}
+use Rattle.records.proofs.Logic.{clash, true≠false}
 use Rattle.resolution.specs.Lists.{Name}
 use Rattle.resolution.specs.declared.configuration.Configuration.{Configuration}
-use Rattle.resolution.proofs.Lists.{imp, or-imp, same-imp, true≠false, use-imp}
+use Rattle.resolution.proofs.Lists.{imp, or-imp, same-imp, use-imp}
 use Rattle.access.specs.Access.{readsName, resolvedModule, grantsOf, denied, pickResult, grants, granted, namedVerdict, unnamedGranted, unnamedVerdict, verdict, answered, checkAccess}
 use Rattle.access.specs.declared.access.AccessCheckResult.{AccessCheckResult}
 use Rattle.access.specs.declared.access.AccessCheckResult.the-variants.{Allowed, NotReadable}

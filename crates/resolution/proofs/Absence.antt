@@ -22,7 +22,7 @@ use Rattle.records.specs.declared.record.Kind.the-variants as Kind
 use Rattle.records.specs.declared.set.Checked.{Checked}
 use Rattle.records.specs.declared.set.SetAnswer.{SetAnswer}
 use Rattle.records.specs.declared.set.SetAnswer.the-variants.{Modules}
-use Rattle.records.proofs.Logic.{clash}
+use Rattle.records.proofs.Logic.{clash, by, true≠false}
 use Rattle.records.proofs.bytes.Laws.{same-refl}
 use Rattle.records.proofs.record.Bodies.{nth-body, nth-nothing}
 use Rattle.records.proofs.set.Blocks.{GoodSet, good-set}
@@ -37,7 +37,7 @@ use Rattle.resolution.specs.Absent.{partOf, absentIn, absentName}
 use Rattle.resolution.specs.declared.resolve.Outcome.the-variants.{Refused}
 use Rattle.resolution.proofs.Enqueue.{item}
 use Rattle.resolution.proofs.Find.{find-mem, has-find}
-use Rattle.resolution.proofs.Lists.{any-in, by, keep-out, map-out, true≠false}
+use Rattle.resolution.proofs.Lists.{any-in, keep-out, map-out}
 use Rattle.resolution.proofs.Positions.{index-in, find-at}
 use Rattle.resolution.proofs.Sets.{set-length}
 use Rattle.records.proofs.request.Taken.{inputs-taken}

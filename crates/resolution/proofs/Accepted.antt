@@ -8,6 +8,7 @@ use mathlib.Core.List.{List, [], _∷_, _++_, map, List·Memᴰ·not-nil}
 use mathlib.Core.Logic.{inl, inr, ⊎-elim}
 use lib.ListN.{length}
 use Rattle.records.proofs.bytes.Laws.{same-refl}
+use Rattle.records.proofs.Logic.{and-both, and-left, and-right, by, or-left, true≠false}
 use Rattle.records.specs.Bytes.{sameBytes}
 use Rattle.records.specs.Descriptor.{Descriptor, Requirement}
 use Rattle.records.specs.Name.{javaBase, memName}
@@ -20,7 +21,7 @@ use Rattle.resolution.specs.Owner.{least, shared}
 use Rattle.resolution.specs.Resolution.{Enqueued, Item, Refusal, State, asRequirement, base, baseMet, baseQueue, enqueue, enqueued, find, found, handled, indexOf, isProvider, missing, names, passed, provider, providers, queueFuel, ran, ranOut, required, resolve, root, round, roundOn, rounds, runQueue, seeds, started, taken, tested, turn}
 use Rattle.resolution.proofs.Enqueue.{enqueue-all, enqueue-mono, met-new}
 use Rattle.resolution.proofs.Find.{Unique, find-mem, has-find, unique-of}
-use Rattle.resolution.proofs.Lists.{and-i, and-l, and-r, any-in, any-out, by, keep-in, keep-out, map-in, map-out, memName-in, memName-out, or-l, true≠false}
+use Rattle.resolution.proofs.Lists.{any-in, any-out, keep-in, keep-out, map-in, map-out, memName-in, memName-out}
 use Rattle.resolution.proofs.Loop.{failed≠done, fail≠go, loop-inv, stop≠go}
 use Rattle.resolution.proofs.Queue.{Front, Invariant, enqueue-front, front-add, keeps}
 
@@ -120,14 +121,14 @@ module _ (s : List Descriptor) (rq : Request) (C : Name → Type 0) (closed : Cl
         let m : Descriptor = x .0 in
         let y = keep-out (isProvider (st .resolved) rq) s (x .1) in
         let uses : Name → Bool = (λ v. any (λ (u : Descriptor). memName v (u .uses)) (st .resolved)) in
-        let v = any-out uses (m .provides) (and-r (isPermitted rq (m .name)) (any uses (m .provides)) (y .1)) in
+        let v = any-out uses (m .provides) (and-right (isPermitted rq (m .name)) (any uses (m .provides)) (y .1)) in
         let u = any-out (λ (w : Descriptor). memName (v .0) (w .uses)) (st .resolved) (v .2) in
         let su = i .sound (u .0) (u .1) in
         let name-is : r .name ≡ m .name = ap (λ (z : Requirement). z .name) (x .2) in
         let known : find (m .name) s ≡ some m = unique m (y .0) in
         subst C (sym name-is)
         (closed .provider (u .0 .name) (u .0) (v .0) (m .name) m (i .front .small (u .0 .name) (u .0) (su .2) (su .1) (su .0)) (su .0)
-        (memName-out (v .0) (u .0 .uses) (u .2)) (and-l (isPermitted rq (m .name)) (any uses (m .provides)) (y .1)) known (v .1))
+        (memName-out (v .0) (u .0 .uses) (u .2)) (and-left (isPermitted rq (m .name)) (any uses (m .provides)) (y .1)) known (v .1))
 
     round-front : (st : State) → Rest s rq C st → (met : List Name) (q : List Item)
         → enqueue false s provider (providers s rq (st .resolved)) 0 (st .met) [] ≡ enqueued met q → Front s rq C (st .resolved) met q
@@ -184,7 +185,7 @@ trivial s rq = record { base = tt; root = λ n m p. tt; requirement = λ n m r k
 
 pub base-permitted : (rq : Request) → isPermitted rq javaBase ≡ true
 unfolding isPermitted
-base-permitted rq = or-l (sameBytes javaBase javaBase) _ (same-refl javaBase)
+base-permitted rq = or-left (sameBytes javaBase javaBase) _ (same-refl javaBase)
 
 module _ (s : List Descriptor) (rq : Request) (unique : Unique s) (t : State) (h : resolve s rq ≡ done t) where
   fact : Rest s rq (λ n. Unit {0}) t × (round s rq t ≡ stop)
@@ -236,7 +237,7 @@ module _ (s : List Descriptor) (rq : Request) (unique : Unique s) (t : State) (h
         let pk : isPermitted rq (k .name) ≡ true = subst (λ (z : Name). isPermitted rq z ≡ true) (sym (x .1)) p in
         let used = any-in (λ (o : Descriptor). memName v (o .uses)) (a .1) (memName-in (subst (λ (z : Descriptor). Mem v (z .uses)) (sym same) u)) in
         subst (λ (z : Name). Member (t .resolved) z) (x .1)
-        (provider-in k (x .0) (and-i pk (any-in (λ (y : Name). any (λ (o : Descriptor). memName y (o .uses)) (t .resolved)) w used)) pk);
+        (provider-in k (x .0) (and-both pk (any-in (λ (y : Name). any (λ (o : Descriptor). memName y (o .uses)) (t .resolved)) w used)) pk);
   }
 
   pub members-smallest : Smallest s rq (Member (t .resolved))

@@ -6,13 +6,15 @@ use mathlib.Core.Bool.{false, not}
 use mathlib.Core.List.{List, [], _∷_, _++_, flatMap, List·Memᴰ·head, List·Memᴰ·not-nil, List·Memᴰ·append-cases, Memᴰ·append-right}
 use mathlib.Core.Logic.{⊎-elim}
 use lib.ListN.{length}
+use borrow.Author.Tests.{not-true}
 use Rattle.records.specs.Name.{memName}
+use Rattle.records.proofs.Logic.{by, not-of-false}
 use Rattle.resolution.specs.Lists.{Mem, Name}
 use Rattle.resolution.specs.Loop.{Result, done, fail, failed, go, loop, stop}
 use Rattle.resolution.specs.Reach.{closure, ended, spread, widen, widened}
 use Rattle.resolution.proofs.Enqueue.{fresh, fresh-lt}
 use Rattle.resolution.proofs.Fuel.{fresh-length}
-use Rattle.resolution.proofs.Lists.{by, flat-in, flat-out, keep-in, keep-out, memName-in, memName-out, not-f, not-t}
+use Rattle.resolution.proofs.Lists.{flat-in, flat-out, keep-in, keep-out, memName-in, memName-out}
 use Rattle.resolution.proofs.Loop.{loop-fuel, loop-inv, stop≠go}
 
 module _ (onward : Name → List Name) where
@@ -21,7 +23,7 @@ module _ (onward : Name → List Name) where
   spread-out l n h =
       let k = keep-out (λ x. not (memName x l)) (flatMap onward l) h in
       let r = flat-out onward l (k .0) in
-      (r .0, r .1, r .2, not-t (memName n l) (k .1))
+      (r .0, r .1, r .2, not-true (memName n l) (k .1))
 
   -- a step adds the spread
   widen-go : (l t : List Name) → widen onward l ≡ go t → (x : Name) × (xs : List Name) × (spread onward l ≡ x ∷ xs) × (t ≡ (x ∷ xs) ++ l)
@@ -87,7 +89,7 @@ module _ (onward : Name → List Name) where
         let l : List Name = closure onward all start in
         let e = close-inv (λ z. Unit {0}) (λ a b p q. tt) start tt .1 in
         by (memName x l) (λ y. memName-out x l y)
-        (λ y. absurd (List·Memᴰ·not-nil (subst (λ (z : List Name). Mem x z) e (keep-in (λ z. not (memName z l)) (flat-in onward h k) (not-f y)))))
+        (λ y. absurd (List·Memᴰ·not-nil (subst (λ (z : List Name). Mem x z) e (keep-in (λ z. not (memName z l)) (flat-in onward h k) (not-of-false y)))))
 
     pub closure-least : (C : Name → Type 0) → ((n x : Name) → C n → Mem x (onward n) → C x) → (start : List Name) → ((n : Name) → Mem n start → C n)
         → (n : Name) → Mem n (closure onward all start) → C n

@@ -12,6 +12,7 @@ use Rattle.records.specs.Request.{requestOf, isPermitted}
 use Rattle.records.specs.Set.{modules, checkSet, distinct}
 use Rattle.records.specs.declared.set.SetAnswer.the-variants.{Modules}
 use Rattle.records.proofs.set.Blocks.{GoodSet, good-set}
+use Rattle.records.proofs.Logic.{by}
 use Rattle.resolution.specs.Lists.{Mem, any}
 use Rattle.resolution.specs.Loop.{done}
 use Rattle.resolution.specs.Positions.{moduleAt}
@@ -20,7 +21,6 @@ use Rattle.resolution.specs.Resolve.{configurationOf, memberAt, words}
 use Rattle.resolution.specs.Resolver.{isOneOf, resolveAt, startOn}
 use Rattle.resolution.specs.Row.{countBelow, holds, one, size}
 use Rattle.resolution.proofs.Find.{has-find, unique-of}
-use Rattle.resolution.proofs.Lists.{by}
 use Rattle.resolution.proofs.Positions.{at-mem, has-at, index-at}
 use Rattle.resolution.proofs.ResolverOrder.{allDiffer, few, one-of-out}
 use Rattle.resolution.proofs.ResolverWhole.{Accepts, resolver-accepts}

@@ -4,6 +4,7 @@ use mathlib.Core.Bool.{true, _&&_}
 use mathlib.Core.Option.{Option, none, some}
 use mathlib.Core.List.{List, [], _∷_, map, List·Memᴰ·head, List·Memᴰ·tail, List·Memᴰ·not-nil, Memᴰ·cast}
 use Rattle.records.proofs.bytes.Laws.{same-eq}
+use Rattle.records.proofs.Logic.{and-both, and-left, and-right, or-cases, or-left, or-right, true≠false}
 use Rattle.records.specs.Bytes.{sameBytes}
 use Rattle.records.specs.Descriptor.{Descriptor, Requirement}
 use Rattle.records.specs.Request.{Read, Grant, hasRead, hasGrant}
@@ -11,7 +12,7 @@ use Rattle.resolution.specs.Lists.{Mem, Name, keep}
 use Rattle.resolution.specs.Reads.{requiredNames, transitiveNames, transitiveOf}
 use Rattle.resolution.specs.Resolution.{find}
 use Rattle.resolution.proofs.Find.{find-mem}
-use Rattle.resolution.proofs.Lists.{and-i, and-l, and-r, flat-in, keep-out, map-in, map-out, or-e, or-l, or-r, true≠false, →same}
+use Rattle.resolution.proofs.Lists.{flat-in, keep-out, map-in, map-out, →same}
 
 -- a requirement of a module is required
 pub required-in : (ms : List Descriptor) (m : Descriptor) (x : Name) → Mem m ms → Mem x (map (λ (r : Requirement). r .name) (m .requires))
@@ -36,22 +37,22 @@ pub read-out : (l : List Read) (x y : Name) → hasRead l x y ≡ true → (a : 
 unfolding hasRead
 read-out [] x y e = true≠false e refl
 read-out (a ∷ l) x y e =
-    or-e (sameBytes (a .source) x && sameBytes (a .target) y) (hasRead l x y) e
+    or-cases (sameBytes (a .source) x && sameBytes (a .target) y) (hasRead l x y) e
     (λ h. (
       a,
       List·Memᴰ·head refl,
-      same-eq (a .source) x (and-l (sameBytes (a .source) x) (sameBytes (a .target) y) h),
-      same-eq (a .target) y (and-r (sameBytes (a .source) x) (sameBytes (a .target) y) h),
+      same-eq (a .source) x (and-left (sameBytes (a .source) x) (sameBytes (a .target) y) h),
+      same-eq (a .target) y (and-right (sameBytes (a .source) x) (sameBytes (a .target) y) h),
     ))
     (λ h. let r = read-out l x y h in (r .0, List·Memᴰ·tail (r .1), r .2, r .3))
 
 pub read-in : (x y : Name) {a : Read} {l : List Read} → Mem a l → a .source ≡ x → a .target ≡ y → hasRead l x y ≡ true
 unfolding hasRead
 read-in x y {a} (List·Memᴰ·head {x = b} {xs = l} e) p q =
-    or-l (sameBytes (b .source) x && sameBytes (b .target) y) (hasRead l x y)
-    (and-i (→same (sym p ∙ ap (λ (z : Read). z .source) e)) (→same (sym q ∙ ap (λ (z : Read). z .target) e)))
+    or-left (sameBytes (b .source) x && sameBytes (b .target) y) (hasRead l x y)
+    (and-both (→same (sym p ∙ ap (λ (z : Read). z .source) e)) (→same (sym q ∙ ap (λ (z : Read). z .target) e)))
 read-in x y (List·Memᴰ·tail {x = b} {xs = l} m) p q =
-    or-r (sameBytes (b .source) x && sameBytes (b .target) y) (hasRead l x y) (read-in x y m p q)
+    or-right (sameBytes (b .source) x && sameBytes (b .target) y) (hasRead l x y) (read-in x y m p q)
 
 -- so a longer list has all that a shorter one has
 pub read-over : (x y : Name) (l₁ l₂ : List Read) → ((a : Read) → Mem a l₁ → Mem a l₂) → hasRead l₁ x y ≡ true → hasRead l₂ x y ≡ true
@@ -61,23 +62,23 @@ pub grant-out : (l : List Grant) (x p y : Name) → hasGrant l x p y ≡ true �
 unfolding hasGrant
 grant-out [] x p y e = true≠false e refl
 grant-out (g ∷ l) x p y e =
-    or-e (sameBytes (g .source) x && (sameBytes (g .pkg) p && sameBytes (g .target) y)) (hasGrant l x p y) e
-    (λ h. let k : sameBytes (g .pkg) p && sameBytes (g .target) y ≡ true = and-r (sameBytes (g .source) x) (sameBytes (g .pkg) p && sameBytes (g .target) y) h in (
+    or-cases (sameBytes (g .source) x && (sameBytes (g .pkg) p && sameBytes (g .target) y)) (hasGrant l x p y) e
+    (λ h. let k : sameBytes (g .pkg) p && sameBytes (g .target) y ≡ true = and-right (sameBytes (g .source) x) (sameBytes (g .pkg) p && sameBytes (g .target) y) h in (
       g,
       List·Memᴰ·head refl,
-      same-eq (g .source) x (and-l (sameBytes (g .source) x) (sameBytes (g .pkg) p && sameBytes (g .target) y) h),
-      same-eq (g .pkg) p (and-l (sameBytes (g .pkg) p) (sameBytes (g .target) y) k),
-      same-eq (g .target) y (and-r (sameBytes (g .pkg) p) (sameBytes (g .target) y) k),
+      same-eq (g .source) x (and-left (sameBytes (g .source) x) (sameBytes (g .pkg) p && sameBytes (g .target) y) h),
+      same-eq (g .pkg) p (and-left (sameBytes (g .pkg) p) (sameBytes (g .target) y) k),
+      same-eq (g .target) y (and-right (sameBytes (g .pkg) p) (sameBytes (g .target) y) k),
     ))
     (λ h. let r = grant-out l x p y h in (r .0, List·Memᴰ·tail (r .1), r .2, r .3, r .4))
 
 pub grant-in : (x p y : Name) {g : Grant} {l : List Grant} → Mem g l → g .source ≡ x → g .pkg ≡ p → g .target ≡ y → hasGrant l x p y ≡ true
 unfolding hasGrant
 grant-in x p y (List·Memᴰ·head {x = b} {xs = l} e) s q t =
-    or-l (sameBytes (b .source) x && (sameBytes (b .pkg) p && sameBytes (b .target) y)) (hasGrant l x p y)
-    (and-i (→same (sym s ∙ ap (λ (z : Grant). z .source) e)) (and-i (→same (sym q ∙ ap (λ (z : Grant). z .pkg) e)) (→same (sym t ∙ ap (λ (z : Grant). z .target) e))))
+    or-left (sameBytes (b .source) x && (sameBytes (b .pkg) p && sameBytes (b .target) y)) (hasGrant l x p y)
+    (and-both (→same (sym s ∙ ap (λ (z : Grant). z .source) e)) (and-both (→same (sym q ∙ ap (λ (z : Grant). z .pkg) e)) (→same (sym t ∙ ap (λ (z : Grant). z .target) e))))
 grant-in x p y (List·Memᴰ·tail {x = b} {xs = l} m) s q t =
-    or-r (sameBytes (b .source) x && (sameBytes (b .pkg) p && sameBytes (b .target) y)) (hasGrant l x p y) (grant-in x p y m s q t)
+    or-right (sameBytes (b .source) x && (sameBytes (b .pkg) p && sameBytes (b .target) y)) (hasGrant l x p y) (grant-in x p y m s q t)
 
 pub grant-over : (x p y : Name) (l₁ l₂ : List Grant) → ((g : Grant) → Mem g l₁ → Mem g l₂) → hasGrant l₁ x p y ≡ true → hasGrant l₂ x p y ≡ true
 grant-over x p y l₁ l₂ f h = let r = grant-out l₁ x p y h in grant-in x p y (f (r .0) (r .1)) (r .2) (r .3) (r .4)

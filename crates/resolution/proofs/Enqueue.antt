@@ -7,12 +7,13 @@ use mathlib.Core.List.{List, [], _∷_, _++_, List·Memᴰ·head, List·Memᴰ·
 use mathlib.Core.Logic.{_⊎_, ⊎-elim}
 use lib.ListN.{length, length-append}
 use Rattle.records.proofs.bytes.Laws.{same-refl}
+use Rattle.records.proofs.Logic.{or-cases, or-left, or-right, true≠false}
 use Rattle.records.specs.Bytes.{sameBytes}
 use Rattle.records.specs.Descriptor.{Descriptor, Requirement}
 use Rattle.records.specs.Name.{memName}
 use Rattle.resolution.specs.Lists.{Mem, Name}
 use Rattle.resolution.specs.Resolution.{Choice, Enqueued, Item, Place, add, choose, enqueue, enqueueNext, enqueued, hasModule, missing, pass, refuse}
-use Rattle.resolution.proofs.Lists.{or-e, or-l, or-r, same→, true≠false}
+use Rattle.resolution.proofs.Lists.{same→}
 
 pub missing≠enqueued : {X : Type 0} {n : Name} {o : Place} {m : List Name} {q : List Item} → missing n o ≡ enqueued m q → X
 missing≠enqueued e = absurd (let z : _≡_ {A = ℕ} 0 1 = cc in omega arith)
@@ -21,15 +22,15 @@ missing≠enqueued e = absurd (let z : _≡_ {A = ℕ} 0 1 = cc in omega arith)
 
 pub met-old : (x n : Name) (met : List Name) → memName x met ≡ true → memName x (n ∷ met) ≡ true
 unfolding memName
-met-old x n met h = or-r (sameBytes n x) (memName x met) h
+met-old x n met h = or-right (sameBytes n x) (memName x met) h
 
 pub met-new : (n : Name) (met : List Name) → memName n (n ∷ met) ≡ true
 unfolding memName
-met-new n met = or-l (sameBytes n n) (memName n met) (same-refl n)
+met-new n met = or-left (sameBytes n n) (memName n met) (same-refl n)
 
 pub met-cases : {X : Type 0} (x n : Name) (met : List Name) → memName x (n ∷ met) ≡ true → (x ≡ n → X) → (memName x met ≡ true → X) → X
 unfolding memName
-met-cases x n met h f g = or-e (sameBytes n x) (memName x met) h (λ e. f (same→ x n e)) g
+met-cases x n met h f g = or-cases (sameBytes n x) (memName x met) h (λ e. f (same→ x n e)) g
 
 -- ---- how many of a list of names are not met
 

@@ -4,14 +4,16 @@ use mathlib.Core.Bool.{Bool, true, false, not, _||_, cond}
 use mathlib.Core.Option.{some}
 use mathlib.Core.List.{List, [], _∷_, List·Memᴰ·not-nil, List·Memᴰ·cases-cons, Memᴰ·cast}
 use mathlib.Core.Logic.{⊎-elim}
+use borrow.Author.Tests.{not-true}
 use Rattle.records.proofs.bytes.Laws.{same-refl}
+use Rattle.records.proofs.Logic.{and-left, and-right, by, true≠false}
 use Rattle.records.specs.Bytes.{sameBytes}
 use Rattle.records.specs.Descriptor.{Descriptor}
 use Rattle.records.specs.Name.{memName}
 use Rattle.records.specs.Set.{distinct}
 use Rattle.resolution.specs.Lists.{Mem, Name, any, first}
 use Rattle.resolution.specs.Resolution.{find, hasModule, names}
-use Rattle.resolution.proofs.Lists.{and-l, and-r, any-in, any-out, by, first-in, first-out, map-in, memName-in, not-t, same→, true≠false, →same}
+use Rattle.resolution.proofs.Lists.{any-in, any-out, first-in, first-out, map-in, memName-in, same→, →same}
 
 -- each module is the one that its name finds: what "no name twice" comes to
 abbrev pub Unique : List Descriptor → Type 0
@@ -45,11 +47,11 @@ unfolding distinct find first
 unique-of [] d m h = absurd (List·Memᴰ·not-nil h)
 unique-of (x ∷ xs) d m h = ⊎-elim
     (λ (e : m ≡ x). subst (λ (z : Descriptor). cond (sameBytes (x .name) (z .name)) (some x) (find (z .name) xs) ≡ some z) (sym e) (rw (same-refl (x .name))))
-    (λ (k : Mem m xs). rw (other k) (unique-of xs (and-r (not (memName (x .name) (names xs))) (distinct (names xs)) d) m k))
+    (λ (k : Mem m xs). rw (other k) (unique-of xs (and-right (not (memName (x .name) (names xs))) (distinct (names xs)) d) m k))
     (List·Memᴰ·cases-cons h)
   where
     new : memName (x .name) (names xs) ≡ false
-    new = not-t (memName (x .name) (names xs)) (and-l (not (memName (x .name) (names xs))) (distinct (names xs)) d)
+    new = not-true (memName (x .name) (names xs)) (and-left (not (memName (x .name) (names xs))) (distinct (names xs)) d)
 
     other : Mem m xs → sameBytes (x .name) (m .name) ≡ false
     other k = by (sameBytes (x .name) (m .name))

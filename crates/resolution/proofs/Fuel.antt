@@ -11,13 +11,14 @@ use Rattle.records.specs.Bytes.{sameBytes}
 use Rattle.records.specs.Descriptor.{Descriptor, Requirement}
 use Rattle.records.specs.Name.{javaBase, memName}
 use Rattle.records.specs.Request.{Request, isPermitted}
+use Rattle.records.proofs.Logic.{by, true≠false}
 use Rattle.resolution.specs.Lists.{Mem, Name, keep}
 use Rattle.resolution.specs.Loop.{Result, Step, done, fail, failed, go, loop, stop}
 use Rattle.resolution.specs.Owner.{least, shared}
 use Rattle.resolution.specs.Resolution.{Enqueued, Item, Place, Refusal, State, add, asRequirement, baseMet, baseQueue, candidates, choose, enqueue, enqueued, find, found, handled, hasModule, indexOf, isProvider, javaBaseNotFound, missing, moduleNotFound, names, passed, provider, providers, queueFuel, ran, ranOut, required, resolve, root, round, roundOn, rounds, runQueue, seeds, splitPackage, started, taken, tested, turn}
 use Rattle.resolution.proofs.Enqueue.{count, enqueue-inv, enqueue-mono, enqueue-size, fresh, fresh-lt, item, met-new, met-old}
 use Rattle.resolution.proofs.Find.{find-mem}
-use Rattle.resolution.proofs.Lists.{by, flat-in, keep-out, map-in, map-out, true≠false}
+use Rattle.resolution.proofs.Lists.{flat-in, keep-out, map-in, map-out}
 use Rattle.resolution.proofs.Loop.{fail≠go, loop-fuel, loop-same, loop-inv, stop≠go}
 use Rattle.resolution.proofs.Queue.{Turned, passed-inv, skipped, took}
 

@@ -2,6 +2,7 @@
 use mathlib.Core.Path.{_≡_, refl, sym, ap, _∙_, subst}
 use Prim.Native.Nat.{ℕ, suc}
 use native.Mathlib.Omega.{arith}
+use borrow.Author.Tests.{not-true}
 use mathlib.Core.Bool.{Bool, true, false, not, _&&_, _||_}
 use mathlib.Core.Option.{Option, none, some}
 use mathlib.Core.List.{List, [], _∷_, _++_, List·Memᴰ·head, List·Memᴰ·tail, List·Memᴰ·not-nil, List·Memᴰ·cases-cons}
@@ -10,13 +11,14 @@ use Rattle.records.specs.Bytes.{sameBytes}
 use Rattle.records.specs.Descriptor.{Descriptor, Requirement}
 use Rattle.records.specs.Name.{memName}
 use Rattle.records.specs.Request.{Request, isPermitted}
+use Rattle.records.proofs.Logic.{and-both, and-left, and-right, by, not-of-false, or-cases, or-left, or-right, true≠false}
 use Rattle.resolution.specs.Closed.{Member}
 use Rattle.resolution.specs.Lists.{Mem, Name, any}
 use Rattle.resolution.specs.Resolution.{Choice, Enqueued, Item, Place, add, choose, enqueue, enqueueNext, enqueued, find, hasModule, missing, pass, refuse}
 use Rattle.resolution.specs.Short.{Line, Lined, empty, fault, isMet, lineOf, lined, push, pushed, put, shortEnqueue, shortNext}
 use Rattle.resolution.proofs.Enqueue.{item, met-old}
 use Rattle.resolution.proofs.Find.{find-mem}
-use Rattle.resolution.proofs.Lists.{and-i, and-l, and-r, any-in, any-out, by, not-f, not-t, or-e, or-l, or-r, same→, true≠false, →same}
+use Rattle.resolution.proofs.Lists.{any-in, any-out, same→, →same}
 use Rattle.resolution.proofs.Queue.{Front, InQueue, front-add}
 
 abbrev pub Whatever : Name → Type 0
@@ -81,8 +83,8 @@ module _ (s : List Descriptor) (rq : Request) where
           (λ k. below k p) (List·Memᴰ·cases-cons h)
       turned true none c f below = inl (e, refl)
       turned true (some m) c f below = ⊎-elim
-          (λ (k : x ≡ e). inr (or-l (sameBytes (m .name) (x .name)) _ (→same (ap (λ (z : Item). z .name) k ∙ sym (find-mem (e .name) s m f .1)))))
-          (λ k. ⊎-elim (λ y. inl y) (λ y. inr (or-r (sameBytes (m .name) (x .name)) _ y)) (below k p)) (List·Memᴰ·cases-cons h)
+          (λ (k : x ≡ e). inr (or-left (sameBytes (m .name) (x .name)) _ (→same (ap (λ (z : Item). z .name) k ∙ sym (find-mem (e .name) s m f .1)))))
+          (λ k. ⊎-elim (λ y. inl y) (λ y. inr (or-right (sameBytes (m .name) (x .name)) _ y)) (below k p)) (List·Memᴰ·cases-cons h)
 
 pushed-none : (h : Option Item) (t : List Descriptor) (b : Bool) (o : Option Descriptor) (e : Item) → (b ≡ false) ⊎ ((y : Item) × (h ≡ some y))
     → pushed h t b o e ≡ record { todo = t; halt = h }
@@ -111,13 +113,13 @@ not-met inRound old s rq ms met q n r h = by (isMet inRound old s ms (lineOf s r
     third = inRound && (not (hasModule s n) && old n)
 
     met-of : isMet inRound old s ms l n ≡ true → memName n met ≡ true
-    met-of k = or-e (hasModule ms n) (hasModule (l .todo) n || third) k
+    met-of k = or-cases (hasModule ms n) (hasModule (l .todo) n || third) k
         (λ a. unfold hasModule in let x = any-out (λ (m : Descriptor). sameBytes (m .name) n) ms a in subst (λ (z : Name). memName z met ≡ true) (sym (same→ n (x .0 .name) (x .2))) (r .resolvedMet (x .0) (x .1)))
-        (λ a. or-e (hasModule (l .todo) n) third a
+        (λ a. or-cases (hasModule (l .todo) n) third a
         (λ b. unfold hasModule in let x = any-out (λ (m : Descriptor). sameBytes (m .name) n) (l .todo) b in
         let y = line-from s rq q (x .0) (x .1) in
         subst (λ (z : Name). memName z met ≡ true) (y .2 ∙ sym (same→ n (x .0 .name) (x .2))) (r .front .queued (y .0) (y .1)))
-        (λ b. r .past (and-l inRound _ b) n (not-t (hasModule s n) (and-l (not (hasModule s n)) (old n) (and-r inRound _ b))) ∙ and-r (not (hasModule s n)) (old n) (and-r inRound _ b)))
+        (λ b. r .past (and-left inRound _ b) n (not-true (hasModule s n) (and-left (not (hasModule s n)) (old n) (and-right inRound _ b))) ∙ and-right (not (hasModule s n)) (old n) (and-right inRound _ b)))
 
 -- what is met, and neither resolved nor waiting, changes nothing at the end of the line
 push-none : (inRound : Bool) (old : Name → Bool) (s : List Descriptor) (rq : Request) (ms : List Descriptor) (met : List Name) (q : List Item) (n : Name) (o : Place)
@@ -136,9 +138,9 @@ push-none inRound old s rq ms met q n o r h k = pushed-none (lineOf s rq q .halt
 
     halted : isPermitted rq n ≡ true → Goal
     halted p = ⊎-elim
-        (λ (a : Member ms n). true≠false (or-l (hasModule ms n) (hasModule (l .todo) n || third) (unfold hasModule in any-in (λ (m : Descriptor). sameBytes (m .name) n) (a .1) (→same (sym (a .2))))) k)
+        (λ (a : Member ms n). true≠false (or-left (hasModule ms n) (hasModule (l .todo) n || third) (unfold hasModule in any-in (λ (m : Descriptor). sameBytes (m .name) n) (a .1) (→same (sym (a .2))))) k)
         (λ (b : InQueue q n). ⊎-elim (λ y. y)
-        (λ y. true≠false (or-r (hasModule ms n) (hasModule (l .todo) n || third) (or-l (hasModule (l .todo) n) third (subst (λ (z : Name). hasModule (l .todo) z ≡ true) (b .2) y))) k)
+        (λ y. true≠false (or-right (hasModule ms n) (hasModule (l .todo) n || third) (or-left (hasModule (l .todo) n) third (subst (λ (z : Name). hasModule (l .todo) z ≡ true) (b .2) y))) k)
         (line-has s rq q (b .0) (b .1) (subst (λ (z : Name). isPermitted rq z ≡ true) (sym (b .2)) p)))
         (r .front .cover n h p)
 
@@ -148,7 +150,7 @@ past-met : (inRound : Bool) (old : Name → Bool) (s : List Descriptor) (rq : Re
 unfolding isMet
 past-met inRound old s rq ms met q n r lt ns h k =
     let o : old n ≡ true = sym (r .past lt n ns) ∙ h in
-    true≠false (or-r (hasModule ms n) _ (or-r (hasModule (lineOf s rq q .todo) n) _ (and-i lt (and-i (not-f ns) o)))) k
+    true≠false (or-right (hasModule ms n) _ (or-right (hasModule (lineOf s rq q .todo) n) _ (and-both lt (and-both (not-of-false ns) o)))) k
 
 unfoldable pub view : List Descriptor → Request → Enqueued → Lined
 view s rq (missing n o) = fault n o

@@ -1,57 +1,16 @@
 -- Laws of lists and tests: the step between a test and a fact. Every test is `any p l` or `memName n l`; every fact is `Mem a l`.
 use mathlib.Core.Path.{_≡_, refl, sym, ap, _∙_, subst}
-use Prim.Native.Nat.{ℕ}
-use native.Mathlib.Omega.{arith}
-use mathlib.Core.Bool.{Bool, true, false, not, _&&_, _||_, cond}
+use mathlib.Core.Bool.{Bool, true, false, _&&_, _||_, cond}
 use mathlib.Core.Option.{some}
 use mathlib.Core.List.{List, [], _∷_, _++_, map, flatMap, List·Memᴰ·head, List·Memᴰ·tail, List·Memᴰ·not-nil, List·Memᴰ·cases-cons, List·Memᴰ·append-cases, Memᴰ·append-left, Memᴰ·append-right}
 use mathlib.Core.Logic.{_⊎_, inl, inr, ⊎-elim}
 use Rattle.records.specs.Bytes.{sameBytes}
 use Rattle.records.specs.Name.{memName}
+use Rattle.records.proofs.Logic.{clash, true≠false, by, and-left, and-right, and-both, or-left, or-right, or-cases}
 use Rattle.records.proofs.bytes.Laws.{same-eq, same-refl}
 use Rattle.resolution.specs.Lists.{Name, Mem, any, keep, first}
 
 -- ---- tests
-
-pub true≠false : {X : Type 0} {b : Bool} → b ≡ true → b ≡ false → X
-true≠false p q = absurd (let z : _≡_ {A = ℕ} 0 1 = cc in omega arith)
-
--- go by a test, and keep what it says
-pub by {ℓ} : {X : Type ℓ} (b : Bool) → (b ≡ true → X) → (b ≡ false → X) → X
-by true f g = f refl
-by false f g = g refl
-
-pub and-l : (a b : Bool) → a && b ≡ true → a ≡ true
-and-l true b e = refl
-and-l false b e = e
-
-pub and-r : (a b : Bool) → a && b ≡ true → b ≡ true
-and-r true b e = e
-and-r false b e = true≠false e refl
-
-pub and-i : {a b : Bool} → a ≡ true → b ≡ true → a && b ≡ true
-and-i {a = true} p q = q
-and-i {a = false} p q = p
-
-pub or-l : (a b : Bool) → a ≡ true → a || b ≡ true
-or-l true b e = refl
-or-l false b e = true≠false e refl
-
-pub or-r : (a b : Bool) → b ≡ true → a || b ≡ true
-or-r true b e = refl
-or-r false b e = e
-
-pub or-e {ℓ} : {X : Type ℓ} (a b : Bool) → a || b ≡ true → (a ≡ true → X) → (b ≡ true → X) → X
-or-e true b e f g = f refl
-or-e false b e f g = g e
-
-pub not-t : (b : Bool) → not b ≡ true → b ≡ false
-not-t true e = sym e
-not-t false e = refl
-
-pub not-f : {b : Bool} → b ≡ false → not b ≡ true
-not-f {b = true} e = sym e
-not-f {b = false} e = refl
 
 -- one test implies another. As a type of its own, so that the two tests are read off a proof of it
 pub data Imp (a b : Bool) : Type 0 where
@@ -64,10 +23,10 @@ pub same-imp : (a : Bool) → Imp a a
 same-imp a = imp (λ e. e)
 
 pub and-imp : {a b c d : Bool} → Imp a c → Imp b d → Imp (a && b) (c && d)
-and-imp {a} {b} (imp f) (imp g) = imp (λ e. and-i (f (and-l a b e)) (g (and-r a b e)))
+and-imp {a} {b} (imp f) (imp g) = imp (λ e. and-both (f (and-left a b e)) (g (and-right a b e)))
 
 pub or-imp : {a b c d : Bool} → Imp a c → Imp b d → Imp (a || b) (c || d)
-or-imp {a} {b} {c} {d} (imp f) (imp g) = imp (λ e. or-e a b e (λ h. or-l c d (f h)) (λ h. or-r c d (g h)))
+or-imp {a} {b} {c} {d} (imp f) (imp g) = imp (λ e. or-cases a b e (λ h. or-left c d (f h)) (λ h. or-right c d (g h)))
 
 -- ---- names
 
@@ -79,27 +38,27 @@ pub →same : {a b : Name} → a ≡ b → sameBytes b a ≡ true
 
 pub memName-in : {n : Name} {l : List Name} → Mem n l → memName n l ≡ true
 unfolding memName
-memName-in {n} (List·Memᴰ·head {x} {xs} e) = or-l (sameBytes x n) (memName n xs) (→same e)
-memName-in {n} (List·Memᴰ·tail {x} {xs} m) = or-r (sameBytes x n) (memName n xs) (memName-in m)
+memName-in {n} (List·Memᴰ·head {x} {xs} e) = or-left (sameBytes x n) (memName n xs) (→same e)
+memName-in {n} (List·Memᴰ·tail {x} {xs} m) = or-right (sameBytes x n) (memName n xs) (memName-in m)
 
 pub memName-out : (n : Name) (l : List Name) → memName n l ≡ true → Mem n l
 unfolding memName
 memName-out n [] e = true≠false e refl
-memName-out n (x ∷ xs) e = or-e (sameBytes x n) (memName n xs) e (λ h. List·Memᴰ·head (same→ n x h)) (λ h. List·Memᴰ·tail (memName-out n xs h))
+memName-out n (x ∷ xs) e = or-cases (sameBytes x n) (memName n xs) e (λ h. List·Memᴰ·head (same→ n x h)) (λ h. List·Memᴰ·tail (memName-out n xs h))
 
 -- ---- lists
 
 module _ {A : Type 0} (p : A → Bool) where
   pub any-in : {a : A} {l : List A} → Mem a l → p a ≡ true → any p l ≡ true
   unfolding any
-  any-in (List·Memᴰ·head {x} {xs} e) h = or-l (p x) (any p xs) (subst (λ (x : A). p x ≡ true) e h)
-  any-in (List·Memᴰ·tail {x} {xs} m) h = or-r (p x) (any p xs) (any-in m h)
+  any-in (List·Memᴰ·head {x} {xs} e) h = or-left (p x) (any p xs) (subst (λ (x : A). p x ≡ true) e h)
+  any-in (List·Memᴰ·tail {x} {xs} m) h = or-right (p x) (any p xs) (any-in m h)
 
   pub any-out : (l : List A) → any p l ≡ true → (a : A) × Mem a l × (p a ≡ true)
   unfolding any
   any-out [] e = true≠false e refl
   any-out (x ∷ xs) e =
-      or-e (p x) (any p xs) e (λ h. (x, List·Memᴰ·head refl, h)) (λ h. let r = any-out xs h in (r .0, List·Memᴰ·tail (r .1), r .2))
+      or-cases (p x) (any p xs) e (λ h. (x, List·Memᴰ·head refl, h)) (λ h. let r = any-out xs h in (r .0, List·Memᴰ·tail (r .1), r .2))
 
   pub any-no : {a : A} {l : List A} → any p l ≡ false → Mem a l → p a ≡ false
   any-no {a} e m = by (p a) (λ h. true≠false (any-in m h) e) (λ h. h)
@@ -129,7 +88,7 @@ module _ {A : Type 0} (p : A → Bool) where
 
   pub first-out : (l : List A) {a : A} → first p l ≡ some a → Mem a l × (p a ≡ true)
   unfolding first
-  first-out [] e = absurd (let z : _≡_ {A = ℕ} 0 1 = cc in omega arith)
+  first-out [] e = clash (cc)
   first-out (x ∷ xs) {a} e = go (p x) refl (λ (h : first p xs ≡ some a). first-out xs h) e
     where
       go : (b : Bool) → p x ≡ b → (first p xs ≡ some a → Mem a xs × (p a ≡ true)) → cond b (some x) (first p xs) ≡ some a

@@ -17,7 +17,7 @@ use Rattle.records.specs.declared.error.ModuleError.{ModuleError}
 use Rattle.records.specs.declared.set.Checked.{Checked}
 use Rattle.records.specs.declared.set.SetAnswer.{SetAnswer}
 use Rattle.records.specs.declared.set.SetAnswer.the-variants.{Modules}
-use Rattle.records.proofs.Logic.{clash}
+use Rattle.records.proofs.Logic.{clash, and-left, and-right, and-both, by}
 use Rattle.records.proofs.bytes.Laws.{same-refl}
 use Rattle.records.proofs.set.Blocks.{GoodSet, good-set}
 use Rattle.resolution.specs.Lists.{Name, Mem}
@@ -34,7 +34,7 @@ use Rattle.resolution.specs.PackageOwner.{pickOwner, ownsAt, ownerFrom, 
 use Rattle.resolution.specs.declared.configuration.Configuration.{Configuration}
 use Rattle.resolution.specs.declared.owner.Owner.{Owner}
 use Rattle.resolution.specs.declared.owner.Owner.the-variants.{At, Nothing, Refused}
-use Rattle.resolution.proofs.Lists.{and-l, and-r, and-i, any-in, by, first-in, first-out, memName-in, memName-out}
+use Rattle.resolution.proofs.Lists.{any-in, first-in, first-out, memName-in, memName-out}
 use Rattle.resolution.proofs.Find.{find-mem, has-find, has-some, unique-of}
 use Rattle.resolution.proofs.Positions.{index-in, find-at, at-mem, index-at}
 use Rattle.resolution.proofs.Sets.{set-length, set-distinct, set-accepted}
@@ -126,18 +126,18 @@ module _ (s : List ℕ) (n : ℕ) (t : List ℕ) (g : GoodSet s n t) (rq : Reque
   unfolding ownsAt
   owns-out i l h =
       let m : Descriptor = moduleAt (modules s) i in
-      let b : hasModule R (m .name) ≡ true = sym (held i l) ∙ and-l (holds ws i) (memName p (m .packages)) h in
+      let b : hasModule R (m .name) ≡ true = sym (held i l) ∙ and-left (holds ws i) (memName p (m .packages)) h in
       let f = has-some (m .name) R b in
       let r = find-mem (m .name) R (f .0) (f .1) in
       record {
         resolved = subst (λ (z : Descriptor). Mem z R) (same-module i l (f .0) (r .0) (r .1)) (r .0);
-        has = memName-out p (m .packages) (and-r (holds ws i) (memName p (m .packages)) h);
+        has = memName-out p (m .packages) (and-right (holds ws i) (memName p (m .packages)) h);
       }
 
   owns-in : (i : ℕ) → i < length (modules s) → Owns R p (moduleAt (modules s) i) → ownsAt ws p i (moduleAt (modules s) i) ≡ true
   unfolding ownsAt hasModule
   owns-in i l o =
-      and-i (held i l ∙ any-in (λ (k : Descriptor). sameBytes (k .name) (moduleAt (modules s) i .name)) (o .resolved) (same-refl (moduleAt (modules s) i .name))) (memName-in (o .has))
+      and-both (held i l ∙ any-in (λ (k : Descriptor). sameBytes (k .name) (moduleAt (modules s) i .name)) (o .resolved) (same-refl (moduleAt (modules s) i .name))) (memName-in (o .has))
 
   -- the module that has it is the owner
   owner-some : (m : Descriptor) → Owns R p m → owner R p ≡ some (m .name)

@@ -8,9 +8,10 @@ use mathlib.Core.Option.{none, some}
 use mathlib.Core.List.{List, [], _∷_, map, List·Memᴰ·head, List·Memᴰ·tail, Memᴰ·cast}
 use lib.ListN.{length}
 use lib.Dec.{eqb}
-use borrow.Author.Tests.{eq-eqb, eqb-true}
+use borrow.Author.Tests.{eq-eqb, eqb-true, not-true}
 use Rattle.records.specs.declared.finder.Found.the-variants.{At, Nothing}
 use Rattle.records.proofs.bytes.Laws.{same-eq, same-refl}
+use Rattle.records.proofs.Logic.{and-left, and-right, by, true≠false}
 use Rattle.records.specs.Bytes.{sameBytes}
 use Rattle.records.specs.Descriptor.{Descriptor}
 use Rattle.records.specs.Finder.{findName, pickFound}
@@ -20,7 +21,7 @@ use Rattle.resolution.specs.Lists.{Mem, Name, any, first}
 use Rattle.resolution.specs.Positions.{moduleAt}
 use Rattle.resolution.specs.Resolution.{find, hasModule, indexOf, names}
 use Rattle.resolution.proofs.Find.{find-mem}
-use Rattle.resolution.proofs.Lists.{and-l, and-r, by, map-in, memName-in, not-t, true≠false, →same}
+use Rattle.resolution.proofs.Lists.{map-in, memName-in, →same}
 
 -- ---- the position of a name
 
@@ -98,12 +99,12 @@ pub index-at : (s : List Descriptor) (i : ℕ) → distinct (names s) ≡ true �
 unfolding indexOf distinct
 index-at [] i d h = absurd (omega arith)
 index-at (m ∷ ms) zero d h = rw (same-refl (m .name))
-index-at (m ∷ ms) (suc i) d h = rw (other, index-at ms i (and-r (not (memName (m .name) (names ms))) (distinct (names ms)) d) (omega arith))
+index-at (m ∷ ms) (suc i) d h = rw (other, index-at ms i (and-right (not (memName (m .name) (names ms))) (distinct (names ms)) d) (omega arith))
   where
     other : sameBytes (m .name) (moduleAt ms i .name) ≡ false
     other = by (sameBytes (m .name) (moduleAt ms i .name))
         (λ u. true≠false (memName-in (Memᴰ·cast (same-eq (m .name) (moduleAt ms i .name) u) (map-in (λ (z : Descriptor). z .name) (at-mem ms i (omega arith)))))
-        (not-t (memName (m .name) (names ms)) (and-l (not (memName (m .name) (names ms))) (distinct (names ms)) d))) (λ u. u)
+        (not-true (memName (m .name) (names ms)) (and-left (not (memName (m .name) (names ms))) (distinct (names ms)) d))) (λ u. u)
 
 -- a name is among the modules at some positions just if its position is among the positions
 pub has-at : (s : List Descriptor) (n : Name) → distinct (names s) ≡ true → hasModule s n ≡ true → (ps : List ℕ) → ((p : ℕ) → Mem p ps → p < length s)

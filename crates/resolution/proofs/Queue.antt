@@ -9,6 +9,7 @@ use mathlib.Core.Logic.{_⊎_, inl, inr, ⊎-elim}
 use Rattle.records.specs.Descriptor.{Descriptor, Requirement}
 use Rattle.records.specs.Name.{javaBase, memName}
 use Rattle.records.specs.Request.{Request, isPermitted}
+use Rattle.records.proofs.Logic.{true≠false}
 use Rattle.resolution.specs.Closed.{Closed, Member}
 use Rattle.resolution.specs.Lists.{Mem, Name, any, keep}
 use Rattle.resolution.specs.Loop.{go}
@@ -16,7 +17,7 @@ use Rattle.resolution.specs.Owner.{least, lesser, shared}
 use Rattle.resolution.specs.Resolution.{Enqueued, Item, Place, State, enqueue, enqueued, find, found, handled, hasModule, indexOf, missing, passed, required, taken, tested, turn}
 use Rattle.resolution.proofs.Enqueue.{enqueue-all, enqueue-inv, enqueue-mono, item, met-cases, met-new, met-old}
 use Rattle.resolution.proofs.Find.{find-mem}
-use Rattle.resolution.proofs.Lists.{any-in, keep-in, memName-in, true≠false}
+use Rattle.resolution.proofs.Lists.{any-in, keep-in, memName-in}
 use Rattle.resolution.proofs.Loop.{fail≠go, stop≠go}
 
 abbrev pub InQueue : List Item → Name → Type 0

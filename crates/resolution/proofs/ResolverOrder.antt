@@ -8,7 +8,7 @@ use mathlib.Core.List.{List, [], _∷_, _++_, map, List·Memᴰ·head, List·Mem
 use mathlib.Core.Logic.{⊎-elim}
 use lib.ListN.{length, getD, take, length-append, length-map, length-take}
 use lib.Dec.{eqb}
-use borrow.Author.Tests.{eq-eqb, eqb-true, eqb-false}
+use borrow.Author.Tests.{eq-eqb, eqb-true, eqb-false, not-true}
 use Rattle.records.specs.Name.{javaBase, memName}
 use Rattle.records.specs.Record.{bodyOf, isOf}
 use Rattle.records.specs.Request.{requestOf, isPermitted}
@@ -19,7 +19,7 @@ use Rattle.records.specs.declared.error.ModuleError.{ModuleError}
 use Rattle.records.specs.declared.error.ModuleError.the-variants.{JavaBaseNotFound}
 use Rattle.records.specs.declared.finder.Found.{Found}
 use Rattle.records.specs.declared.finder.Found.the-variants.{At, Nothing}
-use Rattle.records.proofs.Logic.{clash}
+use Rattle.records.proofs.Logic.{clash, and-both, and-left, and-right, by, not-of-false, true≠false}
 use Rattle.records.proofs.finder.Modules.{found-at}
 use Rattle.resolution.specs.declared.resolver.Halt.{Halt}
 use Rattle.resolution.specs.declared.resolver.Halt.the-variants as Halt
@@ -28,7 +28,7 @@ use Rattle.resolution.specs.declared.resolver.Wanted.the-variants.{Pass,
 use Rattle.resolution.specs.Lists.{Mem, Name, any}
 use Rattle.resolution.specs.Resolver.{Inputs, Line, frontAt, goesOn, halted, handleAt, handledAt, inRounds, isDone, isMetBefore, isOneOf, isOpen, isProviderAt, kindFor, locate, pickLine, pickWanted, provideAt, provideFrom, queueIn, queued, queuedOn, resolveAt, rootsAt, roundsAt, runAt, splitAt, thenRounds, want, wantAbsent, wantFound, wantRecord, queuedAt, wantUnfound, advancedAt, offeredAt, roundAt, firstAt}
 use Rattle.resolution.specs.Row.{countBelow, holds}
-use Rattle.resolution.proofs.Lists.{and-i, and-l, and-r, any-in, any-out, by, not-f, not-t, true≠false}
+use Rattle.resolution.proofs.Lists.{any-in, any-out}
 use Rattle.resolution.proofs.row.Counts.{count-le, count-strict}
 
 -- no position stands twice
@@ -47,14 +47,14 @@ one-of-out i ps h = let r = any-out (eqb i) ps h in subst (λ (x : ℕ). Mem x p
 differ-last : (ps : List ℕ) (i : ℕ) → allDiffer ps ≡ true → isOneOf i ps ≡ false → allDiffer (ps ++ (i ∷ [])) ≡ true
 unfolding allDiffer
 differ-last [] i d n = unfold isOneOf any in refl
-differ-last (p ∷ ps) i d n = and-i (not-f new) (differ-last ps i (and-r (not (isOneOf p ps)) (allDiffer ps) d) later)
+differ-last (p ∷ ps) i d n = and-both (not-of-false new) (differ-last ps i (and-right (not (isOneOf p ps)) (allDiffer ps) d) later)
   where
     later : isOneOf i ps ≡ false
     later = by (isOneOf i ps) (λ h. true≠false (one-of-in i (p ∷ ps) (List·Memᴰ·tail (one-of-out i ps h))) n) (λ h. h)
 
     new : isOneOf p (ps ++ (i ∷ [])) ≡ false
     new = by (isOneOf p (ps ++ (i ∷ [])))
-        (λ h. ⊎-elim (λ (m : Mem p ps). true≠false (one-of-in p ps m) (not-t (isOneOf p ps) (and-l (not (isOneOf p ps)) (allDiffer ps) d)))
+        (λ h. ⊎-elim (λ (m : Mem p ps). true≠false (one-of-in p ps m) (not-true (isOneOf p ps) (and-left (not (isOneOf p ps)) (allDiffer ps) d)))
         (λ (m : Mem p (i ∷ [])). true≠false (one-of-in i (p ∷ ps) (List·Memᴰ·head (sym (List·Memᴰ·eq-of-singleton m)))) n)
         (List·Memᴰ·append-cases ps (one-of-out p (ps ++ (i ∷ [])) h)))
         (λ h. h)
@@ -64,10 +64,10 @@ pub few : (n : ℕ) (ps : List ℕ) → ((p : ℕ) → Mem p ps → p < n) → a
 unfolding allDiffer
 few n [] w d = omega arith
 few n (p ∷ ps) w d =
-    let below : length ps ≤ countBelow (λ k. isOneOf k ps) n = few n ps (λ x m. w x (List·Memᴰ·tail m)) (and-r (not (isOneOf p ps)) (allDiffer ps) d) in
+    let below : length ps ≤ countBelow (λ k. isOneOf k ps) n = few n ps (λ x m. w x (List·Memᴰ·tail m)) (and-right (not (isOneOf p ps)) (allDiffer ps) d) in
     let more = count-strict (λ k. isOneOf k ps) (λ k. isOneOf k (p ∷ ps)) n p (w p (List·Memᴰ·head refl))
     (λ k l h. one-of-in k (p ∷ ps) (List·Memᴰ·tail (one-of-out k ps h)))
-    (not-t (isOneOf p ps) (and-l (not (isOneOf p ps)) (allDiffer ps) d)) (one-of-in p (p ∷ ps) (List·Memᴰ·head refl)) in
+    (not-true (isOneOf p ps) (and-left (not (isOneOf p ps)) (allDiffer ps) d)) (one-of-in p (p ∷ ps) (List·Memᴰ·head refl)) in
     omega (arith, below, more)
 
 -- the line of a set of n modules
@@ -174,7 +174,7 @@ module _ (w : Inputs) where
   pub goes-below : (n : ℕ) (l : Line) → InOrder n l → goesOn l ≡ true → l .head < length (l .order)
   unfolding goesOn
   goes-below n l o e =
-      let d : eqb (l .head) (length (l .order)) ≡ false = not-t _ (and-r (isOpen (l .halt)) (not (eqb (l .head) (length (l .order)))) e) in
+      let d : eqb (l .head) (length (l .order)) ≡ false = not-true _ (and-right (isOpen (l .halt)) (not (eqb (l .head) (length (l .order)))) e) in
       let f : l .head ≡ length (l .order) → ⊥ = eqb-false (l .head) (length (l .order)) d in
       omega (arith, o .front, f)
 

@@ -2,7 +2,7 @@
 use mathlib.Core.Path.{_≡_, refl, sym, ap, _∙_, subst}
 use Prim.Native.Nat.{ℕ, zero, suc, _+_, _<_}
 use native.Mathlib.Omega.{arith}
-use mathlib.Core.Bool.{Bool, true, false, _&&_, _||_, cond}
+use mathlib.Core.Bool.{Bool, true, false, _&&_, _||_, cond, and-false, or-false, or-assoc}
 use mathlib.Core.Option.{Option, none, some}
 use mathlib.Core.List.{List, [], _∷_, _++_, map, append-assoc, List·Memᴰ·append-cases, List·Memᴰ·eq-of-singleton}
 use mathlib.Core.Logic.{⊎-elim}
@@ -21,7 +21,7 @@ use Rattle.records.specs.declared.finder.Found.{Found}
 use Rattle.records.specs.declared.finder.Found.the-variants.{At, Nothing}
 use Rattle.records.specs.declared.record.Kind.{Kind}
 use Rattle.records.specs.declared.record.Next.{Next}
-use Rattle.records.proofs.Logic.{clash}
+use Rattle.records.proofs.Logic.{clash, by, true≠false}
 use Rattle.records.proofs.set.Blocks.{GoodSet}
 use Rattle.resolution.specs.declared.resolver.Halt.{Halt}
 use Rattle.resolution.specs.declared.resolver.Halt.the-variants as Halt
@@ -36,7 +36,7 @@ use Rattle.resolution.specs.Row.{holds}
 use Rattle.resolution.specs.Short.{Lined, Short, fault, isMet, lined, push, pushed, shortEnqueue, shortNext}
 use Rattle.resolution.specs.Short as Short
 use Rattle.resolution.proofs.Find.{find-mem}
-use Rattle.resolution.proofs.Lists.{any-in, any-out, by, map-append, map-out, true≠false}
+use Rattle.resolution.proofs.Lists.{any-in, any-out, map-append, map-out}
 use Rattle.resolution.proofs.Positions.{Located, at-mem, has-at, located, not-located}
 use Rattle.resolution.proofs.Sets.{set-distinct, set-length}
 
@@ -98,19 +98,7 @@ Follows s q inRound ps l (lined k) = Waits s q inRound ps l k
 pub any-append : {A : Type 0} (f : A → Bool) (a b : List A) → any f (a ++ b) ≡ (any f a || any f b)
 unfolding any
 any-append f [] b = refl
-any-append f (x ∷ a) b = turned (f x) (any-append f a b)
-  where
-    turned : (c : Bool) → any f (a ++ b) ≡ (any f a || any f b) → (c || any f (a ++ b)) ≡ ((c || any f a) || any f b)
-    turned true h = refl
-    turned false h = h
-
-or-false : (b : Bool) → (b || false) ≡ b
-or-false true = refl
-or-false false = refl
-
-and-no : (b : Bool) → (b && false) ≡ false
-and-no true = refl
-and-no false = refl
+any-append f (x ∷ a) b = rw (any-append f a b) (sym (or-assoc (f x) (any f a) (any f b)))
 
 -- where the records of one kind stand, by their numbers
 nth-other : (k : Kind) (r : List ℕ) (rs : List (List ℕ)) (at m : ℕ) → isOf k r ≡ false → nthIn k m at (r ∷ rs) ≡ nthIn k m (at + length r) rs
@@ -144,7 +132,7 @@ module _ (s q : List ℕ) (n : ℕ) (t ws : List ℕ) (g : Given s q n t ws) whe
   unfolding isMet isOneOf
   met-at inRound old x ps qs h a b o =
       let d = set-distinct s n t (g .good) in
-      rw (o, has-at (modules s) x d o ps a, has-at (modules s) x d o qs b, and-no inRound, or-false (any (eqb (indexOf x (modules s))) qs))
+      rw (o, has-at (modules s) x d o ps a, has-at (modules s) x d o qs b, and-false inRound, or-false (any (eqb (indexOf x (modules s))) qs))
       (sym (any-append (eqb (indexOf x (modules s))) ps qs))
 
   queued-pass : (l : Line) → queued Pass l ≡ l

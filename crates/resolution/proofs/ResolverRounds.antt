@@ -17,7 +17,7 @@ use Rattle.records.specs.Request.{Request, requestOf, isPermitted}
 use Rattle.records.specs.Set.{modules}
 use Rattle.records.specs.declared.error.ModuleError.{ModuleError}
 use Rattle.records.specs.declared.record.Kind.the-variants as Kind
-use Rattle.records.proofs.Logic.{clash}
+use Rattle.records.proofs.Logic.{clash, and-left}
 use Rattle.resolution.specs.declared.resolver.Halt.{Halt}
 use Rattle.resolution.specs.declared.resolver.Halt.the-variants as Halt
 use Rattle.resolution.specs.declared.resolver.Wanted.the-variants.{Add}
@@ -30,7 +30,6 @@ use Rattle.resolution.specs.Resolver.{Inputs, Line, blockOf, hasNamed, i
 use Rattle.resolution.specs.Row.{holds}
 use Rattle.resolution.specs.Short.{Lined, Short, empty, lined, metBefore, never, shortEnqueue, shortRan, shortRound, shortRoundFrom, shortRoundOn, shortRun, shortTurn}
 use Rattle.resolution.proofs.Find.{has-find, unique-of}
-use Rattle.resolution.proofs.Lists.{and-l}
 use Rattle.resolution.proofs.Loop.{loop-inv}
 use Rattle.resolution.proofs.Positions.{Located, at-mem}
 use Rattle.resolution.proofs.ResolverQueue.{Given, Within, haltOf, inputs, lineAt, modulesAt, queue-found, shortLine, shortState}
@@ -130,7 +129,7 @@ module _ (s q : List ℕ) (n : ℕ) (t ws : List ℕ) (g : Given s q n t ws) (in
       turned true e below =
           let x : Name = moduleAt (modules s) i .name in
           let p : isPermitted (requestOf q) x ≡ true
-          = sym (g .permits i (omega (arith, l, set-length s n t (g .good)))) ∙ (unfold isProviderAt in and-l (holds ws i) _ e) in
+          = sym (g .permits i (omega (arith, l, set-length s n t (g .good)))) ∙ (unfold isProviderAt in and-left (holds ws i) _ e) in
           rw p at (queue-found s q n t ws g (λ z y. Provided s ps (provideFrom w ps (length ds) (suc i) z) y) false never x false (provider j)
           (λ y. shortEnqueue false never (modules s) (requestOf q) provider (modulesAt s ps) rest (suc j) y) i (own-place i l) ps qs none a b (λ qs₂ b₂. below (suc j) qs₂ b₂))
 

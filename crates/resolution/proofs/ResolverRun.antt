@@ -2,7 +2,7 @@
 use mathlib.Core.Path.{_≡_, refl, sym, ap, subst}
 use Prim.Native.Nat.{ℕ, zero, suc, _+_, _<_}
 use native.Mathlib.Omega.{arith}
-use mathlib.Core.Bool.{Bool, true, false, _&&_, _||_, cond}
+use mathlib.Core.Bool.{Bool, true, false, _&&_, _||_, cond, and-false}
 use mathlib.Core.Option.{Option, none, some}
 use mathlib.Core.List.{List, [], _∷_, _++_, map, append-assoc, append-nil, List·Memᴰ·head, List·Memᴰ·tail}
 use lib.ListN.{length, getD, length-append}
@@ -20,7 +20,7 @@ use Rattle.records.specs.declared.error.ModuleError.{ModuleError}
 use Rattle.records.specs.declared.error.ModuleError.the-variants.{ModuleNotFound}
 use Rattle.records.specs.declared.record.Kind.{Kind}
 use Rattle.records.specs.declared.record.Kind.the-variants as Kind
-use Rattle.records.proofs.Logic.{and-false, clash}
+use Rattle.records.proofs.Logic.{clash, true≠false}
 use Rattle.resolution.specs.declared.resolver.Halt.{Halt}
 use Rattle.resolution.specs.declared.resolver.Halt.the-variants as Halt
 use Rattle.resolution.specs.Lists.{Mem, Name, any, keep, first}
@@ -33,7 +33,7 @@ use Rattle.resolution.specs.Resolve as Resolve
 use Rattle.resolution.specs.Resolver.{Inputs, Line, blockOf, goesOn, handleAt, handledAt, hasNamed, isMetBefore, isOpen, kindFor, namesOf, ownerAt, positionOr, queueIn, runAt, splitAt, splitOf, startOf, wantRecord, advancedAt}
 use Rattle.resolution.specs.Short as Short
 use Rattle.resolution.specs.Short.{Lined, Short, fault, lined, shortEnqueue, shortHandled, shortTaken, shortTested, shortTurn}
-use Rattle.resolution.proofs.Lists.{keep-out, map-append, true≠false}
+use Rattle.resolution.proofs.Lists.{keep-out, map-append}
 use Rattle.resolution.proofs.Positions.{index-at}
 use Rattle.resolution.proofs.ResolverQueue.{Follows, Given, NoHalt, Within, haltOf, inputs, lineAt, modulesAt, queue-row, shortLine, shortState, within-one}
 use Rattle.resolution.proofs.Room.{waiting, waiting-falls}

@@ -17,6 +17,7 @@ use Rattle.records.specs.declared.record.Kind.the-variants as Kind
 use Rattle.records.specs.declared.set.Checked.{Checked}
 use Rattle.records.specs.declared.set.SetAnswer.the-variants.{Modules}
 use Rattle.records.proofs.set.Blocks.{good-set}
+use Rattle.records.proofs.Logic.{true≠false}
 use Rattle.resolution.specs.declared.resolver.Halt.the-variants as Halt
 use Rattle.resolution.specs.Lists.{Mem, Name, any}
 use Rattle.resolution.specs.Loop.{Result, done, failed, loop, mapDone}
@@ -29,7 +30,6 @@ use Rattle.resolution.specs.Short.{Lined, Short, empty, fault, isMet, li
 use Rattle.resolution.specs.Short as Short
 use Rattle.resolution.proofs.Accepted.{base-permitted}
 use Rattle.resolution.proofs.Fuel.{never-out}
-use Rattle.resolution.proofs.Lists.{true≠false}
 use Rattle.resolution.proofs.Loop.{failed≠done}
 use Rattle.resolution.proofs.Positions.{index-at}
 use Rattle.resolution.proofs.ResolverOrder.{InOrder, allDiffer, in-order-resolve, in-order-room}

@@ -12,6 +12,7 @@ use Rattle.records.specs.Bytes.{sameBytes}
 use Rattle.records.specs.Descriptor.{Descriptor, Requirement}
 use Rattle.records.specs.Name.{javaBase, memName}
 use Rattle.records.specs.Request.{Request, isPermitted}
+use Rattle.records.proofs.Logic.{by, or-left, or-right, true≠false}
 use Rattle.resolution.specs.Lists.{Mem, Name, any}
 use Rattle.resolution.specs.Loop.{go, loop}
 use Rattle.resolution.specs.Owner.{least, shared}
@@ -21,7 +22,7 @@ use Rattle.resolution.proofs.Accepted.{base-permitted}
 use Rattle.resolution.proofs.Enqueue.{fresh, fresh-lt}
 use Rattle.resolution.proofs.Find.{find-mem, has-names}
 use Rattle.resolution.proofs.Fuel.{fresh-length}
-use Rattle.resolution.proofs.Lists.{any-in, any-out, by, map-in, map-out, memName-in, memName-out, or-l, or-r, true≠false}
+use Rattle.resolution.proofs.Lists.{any-in, any-out, map-in, map-out, memName-in, memName-out}
 use Rattle.resolution.proofs.Loop.{fail≠go, loop-same, stop≠go}
 
 -- ---- the law of queueing in the line, as that of the queue
@@ -84,8 +85,8 @@ module _ (s : List Descriptor) (rq : Request) (most : ℕ) where
       fresh-name : hasModule (ms ++ l .todo) n ≡ false
       fresh-name = unfold hasModule in by (any (λ (z : Descriptor). sameBytes (z .name) n) (ms ++ l .todo))
           (λ k. let y = any-out (λ (z : Descriptor). sameBytes (z .name) n) (ms ++ l .todo) k in
-          ⊎-elim (λ u. true≠false (or-l (any (λ (z : Descriptor). sameBytes (z .name) n) ms) _ (any-in (λ (z : Descriptor). sameBytes (z .name) n) u (y .2))) h)
-          (λ u. true≠false (or-r (any (λ (z : Descriptor). sameBytes (z .name) n) ms) _ (or-l (any (λ (z : Descriptor). sameBytes (z .name) n) (l .todo)) _ (any-in (λ (z : Descriptor). sameBytes (z .name) n) u (y .2)))) h)
+          ⊎-elim (λ u. true≠false (or-left (any (λ (z : Descriptor). sameBytes (z .name) n) ms) _ (any-in (λ (z : Descriptor). sameBytes (z .name) n) u (y .2))) h)
+          (λ u. true≠false (or-right (any (λ (z : Descriptor). sameBytes (z .name) n) ms) _ (or-left (any (λ (z : Descriptor). sameBytes (z .name) n) (l .todo)) _ (any-in (λ (z : Descriptor). sameBytes (z .name) n) u (y .2)))) h)
           (List·Memᴰ·append-cases ms (y .1))) (λ k. k)
 
       turned : (q : Option Item) (b : Bool) (f : Option Descriptor) → find n s ≡ f

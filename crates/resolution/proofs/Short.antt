@@ -7,11 +7,13 @@ use mathlib.Core.Option.{Option, some}
 use mathlib.Core.List.{List, [], _∷_, _++_, map, List·Memᴰ·head, List·Memᴰ·not-nil, List·Memᴰ·append-cases, List·Memᴰ·eq-of-singleton, Memᴰ·append-left, Memᴰ·append-right}
 use mathlib.Core.Logic.{_⊎_, inl, inr, ⊎-elim}
 use lib.ListN.{length}
+use borrow.Author.Tests.{not-true}
 use Rattle.records.specs.Bytes.{sameBytes}
 use Rattle.records.specs.Descriptor.{Descriptor, Requirement}
 use Rattle.records.specs.Name.{javaBase, memName}
 use Rattle.records.specs.Request.{Request, isPermitted}
 use Rattle.records.specs.Set.{distinct}
+use Rattle.records.proofs.Logic.{and-both, and-left, and-right, by, not-of-false, or-cases, or-left, or-right, true≠false}
 use Rattle.resolution.specs.Closed.{Member}
 use Rattle.resolution.specs.Lists.{Mem, Name, any, keep}
 use Rattle.resolution.specs.Loop.{Result, Step, done, failed, go, mapDone}
@@ -23,7 +25,7 @@ use Rattle.resolution.proofs.Find.{Unique, has-find, unique-of}
 use Rattle.resolution.proofs.Follow.{Good, Past, run-follows, run-past}
 use Rattle.resolution.proofs.Fuel.{providers-in, round-size, rounds-fuel, seeds-size, size}
 use Rattle.resolution.proofs.Line.{Ready, Whatever, past-add, put-empty, short-enqueue-view, view}
-use Rattle.resolution.proofs.Lists.{and-i, and-l, and-r, any-in, any-out, by, keep-out, map-out, memName-in, memName-out, not-f, not-t, or-e, or-l, or-r, same→, true≠false, →same}
+use Rattle.resolution.proofs.Lists.{any-in, any-out, keep-out, map-out, memName-in, memName-out, same→, →same}
 use Rattle.resolution.proofs.Loop.{Follow, fail≠go, loop-inv, loop-view, stop≠go}
 use Rattle.resolution.proofs.Queue.{Front, InQueue, Invariant, Turned, passed-inv, skipped, took}
 
@@ -35,23 +37,23 @@ module _ (rq : Request) where
 
   old-root : (ms : List Descriptor) (n : Name) → Mem n (rq .roots) → metBefore rq ms n ≡ true
   unfolding metBefore needs
-  old-root ms n h = or-l (memName n (rq .roots)) (any (needs n) ms) (memName-in h)
+  old-root ms n h = or-left (memName n (rq .roots)) (any (needs n) ms) (memName-in h)
 
   old-req : (ms : List Descriptor) (m : Descriptor) (r : Requirement) → Mem m ms → Mem r (m .requires) → r .static ≡ false
       → metBefore rq ms (r .name) ≡ true
   unfolding metBefore needs
-  old-req ms m r h k e = or-r (memName (r .name) (rq .roots)) (any (needs (r .name)) ms)
-      (any-in (needs (r .name)) h (any-in (λ (x : Requirement). not (x .static) && sameBytes (x .name) (r .name)) k (and-i (not-f e) (→same refl))))
+  old-req ms m r h k e = or-right (memName (r .name) (rq .roots)) (any (needs (r .name)) ms)
+      (any-in (needs (r .name)) h (any-in (λ (x : Requirement). not (x .static) && sameBytes (x .name) (r .name)) k (and-both (not-of-false e) (→same refl))))
 
   old-out : (X : Type 0) (ms : List Descriptor) (n : Name) → metBefore rq ms n ≡ true → (Mem n (rq .roots) → X)
       → ((m : Descriptor) (r : Requirement) → Mem m ms → Mem r (m .requires) → r .static ≡ false → r .name ≡ n → X) → X
   unfolding metBefore needs
-  old-out X ms n h f g = or-e (memName n (rq .roots)) (any (needs n) ms) h (λ a. f (memName-out n (rq .roots) a))
+  old-out X ms n h f g = or-cases (memName n (rq .roots)) (any (needs n) ms) h (λ a. f (memName-out n (rq .roots) a))
       (λ a. let x = any-out (needs n) ms a in
       let m : Descriptor = x .0 in
       let y = any-out (λ (z : Requirement). not (z .static) && sameBytes (z .name) n) (m .requires) (x .2) in
       let r : Requirement = y .0 in
-      g m r (x .1) (y .1) (not-t (r .static) (and-l (not (r .static)) (sameBytes (r .name) n) (y .2))) (sym (same→ n (r .name) (and-r (not (r .static)) (sameBytes (r .name) n) (y .2)))))
+      g m r (x .1) (y .1) (not-true (r .static) (and-left (not (r .static)) (sameBytes (r .name) n) (y .2))) (sym (same→ n (r .name) (and-right (not (r .static)) (sameBytes (r .name) n) (y .2)))))
 
 absent-static : (l b d : Bool) → b ≡ false → choose l false b d ≡ add → d ≡ false
 unfolding choose
@@ -146,7 +148,7 @@ module _ (s : List Descriptor) (rq : Request) (unique : Unique s) (old : Name �
           let m : Descriptor = x .0 in
           let y = keep-out (isProvider ms rq) s (x .1) in
           let n : r .name ≡ m .name = ap (λ (z : Requirement). z .name) (x .2) in
-          (subst (λ (z : Name). isPermitted rq z ≡ true) (sym n) (and-l (isPermitted rq (m .name)) _ (y .1)), m, subst (λ (z : Name). find z s ≡ some m) (sym n) (unique m (y .0))))
+          (subst (λ (z : Name). isPermitted rq z ≡ true) (sym n) (and-left (isPermitted rq (m .name)) _ (y .1)), m, subst (λ (z : Name). find z s ≡ some m) (sym n) (unique m (y .0))))
 
   round-past : (ms : List Descriptor) (met met₂ : List Name) (q : List Item) → enqueue false s provider (providers s rq ms) 0 met [] ≡ enqueued met₂ q
       → Past s rq true old met → Past s rq true old met₂

@@ -8,13 +8,14 @@ use mathlib.Core.Logic.{_⊎_, inl, inr, ⊎-elim}
 use Rattle.records.specs.Bytes.{sameBytes}
 use Rattle.records.specs.Name.{javaBase, memName}
 use Rattle.records.specs.Descriptor.{Descriptor}
+use Rattle.records.proofs.Logic.{by, true≠false}
 use Rattle.resolution.specs.Lists.{Mem, Name}
 use Rattle.resolution.specs.Loop.{after}
 use Rattle.resolution.specs.Reach.{closure}
 use Rattle.resolution.specs.Reads.{directReads, impliedReads, requiredNames, transitiveOf}
 use Rattle.resolution.specs.Visit.{each, visit, visited}
 use Rattle.resolution.proofs.Enqueue.{fresh, fresh-le, fresh-lt, met-cases, met-new, met-old}
-use Rattle.resolution.proofs.Lists.{by, flat-in, flat-out, memName-in, memName-out, true≠false}
+use Rattle.resolution.proofs.Lists.{flat-in, flat-out, memName-in, memName-out}
 use Rattle.resolution.proofs.Edges.{required-in, transitive-in}
 use Rattle.resolution.proofs.Closure.{closure-closed, closure-holds, closure-least}
 

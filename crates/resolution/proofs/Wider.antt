@@ -11,6 +11,7 @@ use Rattle.records.specs.Descriptor.{Descriptor}
 use Rattle.records.specs.Name.{allUnnamed, memName}
 use Rattle.records.specs.Request.{Request, hasRead}
 use Rattle.records.specs.Set.{distinct}
+use Rattle.records.proofs.Logic.{true≠false}
 use Rattle.resolution.specs.Closed.{Accepted, Closed, Kept, Member, Wider}
 use Rattle.resolution.specs.Lists.{Mem, Name}
 use Rattle.resolution.specs.Loop.{done}
@@ -19,7 +20,7 @@ use Rattle.resolution.specs.Reads.{directReads, impliedReads, reads, rea
 use Rattle.resolution.specs.Resolution.{State, find, hasModule, names, resolve}
 use Rattle.resolution.proofs.Accepted.{accepted}
 use Rattle.resolution.proofs.Find.{find-in, find-mem, has-find, has-some, unique-of}
-use Rattle.resolution.proofs.Lists.{and-imp, first-in, first-out, flat-in, flat-out, imp, memName-in, memName-out, or-imp, same-imp, true≠false, use-imp}
+use Rattle.resolution.proofs.Lists.{and-imp, first-in, first-out, flat-in, flat-out, imp, memName-in, memName-out, or-imp, same-imp, use-imp}
 use Rattle.resolution.proofs.Edges.{read-over, transitive-in}
 use Rattle.resolution.proofs.Closure.{closure-closed, closure-holds, closure-least}
 

@@ -1,3 +1,5 @@
+pub mod Added
 pub mod Answers
 pub mod Laws
 pub mod Resolved
+pub mod Rows

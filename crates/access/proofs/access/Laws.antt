@@ -1,7 +1,7 @@
 -- What each return of the questions shows.
 use Prim.Native.Nat.{ℕ}
 use mathlib.Core.Path.{_≡_, refl, sym, ap, _∙_}
-use mathlib.Core.Bool.{Bool, true, false, _&&_, _||_, or-false, or-true}
+use mathlib.Core.Bool.{Bool, true, false, _&&_, _||_, or-false, or-true, or-comm}
 use mathlib.Core.Option.{Option, some}
 use mathlib.Core.List.{List, map}
 use lib.ListN.{take}
@@ -28,10 +28,10 @@ use Rattle.resolution.specs.Row.{holds}
 use Rattle.resolution.specs.Graph.{Successors}
 use Rattle.resolution.specs.Positions.{moduleAt}
 use Rattle.resolution.specs.declared.configuration.Configuration.{Configuration}
-use Rattle.resolution.proofs.Lists.{by}
 use Rattle.resolution.proofs.Positions.{Located}
 use Rattle.resolution.proofs.Sets.{set-length, set-located, module-block}
 use Rattle.records.proofs.request.Taken.{inputs-taken}
+use Rattle.records.proofs.Logic.{by}
 use Rattle.access.specs.Access.{heldAt, edgeTo, edgeFrom, isMember, readsName, resolvedModule, entriesOf, grantsOf, denied, pickResult, grants, granted, namedVerdict, unnamedGranted, unnamedVerdict, verdict, answered, checkAccess}
 use Rattle.access.specs.Members.{amongMembers, memberIn, moduleOf, verdictBy}
 use Rattle.access.specs.CanRead.{readAnswered, canRead}
@@ -322,12 +322,8 @@ module _ (s : List ℕ) (c : Configuration) (x y : Name) (k : Checked) (ek : k �
     pub can-edge : (e r : Bool) → a ≡ false → e ≡ readsName s c x y → r ≡ e || sameBytes y javaBase → Read.Reads r ≡ canRead s c x y
     unfolding canRead readAnswered
     can-edge e r z ee er =
-        ap Read.Reads (er ∙ ap (λ (t : Bool). t || sameBytes y javaBase) ee ∙ turned (readsName s c x y) (sameBytes y javaBase))
+        ap Read.Reads (er ∙ ap (λ (t : Bool). t || sameBytes y javaBase) ee ∙ or-comm (readsName s c x y) (sameBytes y javaBase))
         ∙ sym (ap (readAnswered s c x y) (ap (λ (z : Checked). z .answer) (sym ek) ∙ h) ∙ rw (← ea, z))
-      where
-        turned : (u v : Bool) → (u || v) ≡ (v || u)
-        turned true v = sym (or-true v)
-        turned false v = sym (or-false v)
 
 pub can-set : (s : List ℕ) (k : Checked) → k ≡ checkSet s → (n : ℕ) → k .answer ≡ Modules n → checkSet s ≡ record { answer = Modules n; starts = k .starts }
 can-set s k ek n h = sym ek ∙ ap (λ (z : SetAnswer). record { answer = z; starts = k .starts }) h

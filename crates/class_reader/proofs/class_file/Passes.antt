@@ -15,13 +15,13 @@ use Rattle.records.specs.Set.{isPlaced, passAt, judgeAt, goOn, accepted, checkF
 use Rattle.records.specs.Output.{recordBytes}
 use Rattle.records.specs.declared.record.Kind.{Kind}
 use Rattle.records.specs.declared.record.Kind.the-variants.{Module, Requires, Exports, Opens, Uses, Provides, Package, MainClass, Root, LimitModules, AddReads, AddExports, AddOpens, Other}
-use Rattle.records.proofs.Logic.{clash, and-left, and-right}
+use Rattle.records.proofs.Logic.{clash, and-left, and-right, neither-left}
 use Rattle.records.proofs.output.Made.{made-mark, made-body, made-records}
 use Rattle.records.proofs.record.Laws.{records-end}
 use Rattle.records.proofs.jar.Sets.{OneModule, one, passes, one-module}
 use Rattle.class_reader.specs.Entry.{Item, bytesOf, isLarge}
 use Rattle.class_reader.proofs.entry.Items.{bytes-long}
-use Rattle.class_reader.proofs.output.Items.{or-left, rest-fits}
+use Rattle.class_reader.proofs.output.Items.{rest-fits}
 
 -- ---- the items as records
 
@@ -36,7 +36,7 @@ records-append (i ∷ is) js = rw (records-append is js)
 
 first-narrow : (i : Item) (is : List Item) → isLarge (i ∷ is) ≡ false → length (i .body) < 65536
 unfolding isLarge
-first-narrow i is e = omega (arith, ltb-false 65535 (length (i .body)) (or-left (ltb 65535 (length (i .body))) (isLarge is) e))
+first-narrow i is e = omega (arith, ltb-false 65535 (length (i .body)) (neither-left (ltb 65535 (length (i .body))) (isLarge is) e))
 
 items-records : (is : List Item) → isLarge is ≡ false → records (bytesOf is) ≡ recordsIn is
 unfolding bytesOf recordsIn

@@ -1,19 +1,12 @@
 -- Laws of the byte classes of specs/Automatic.antt: what each return of their tests shows, and which bytes a class leaves out.
 use Prim.Native.Nat.{ℕ, _≤_, _<_}
 use mathlib.Core.Path.{_≡_, refl}
-use mathlib.Core.Bool.{Bool, true, false, _&&_, _||_}
+use mathlib.Core.Bool.{Bool, true, false, _&&_, _||_, or-false, or-true}
 use native.Mathlib.Omega.{arith}
 use lib.Dec.{leb, eqb}
 use borrow.Author.Tests.{ne-eqb, le-leb, lt-leb, leb-true, eqb-true}
+use Rattle.records.proofs.Logic.{and-left, and-right, or-cases}
 use Rattle.records.specs.Automatic.{isDigit, isLetter, isAlphanumeric, isStart}
-
-or-false : (t : Bool) → (t || false) ≡ t
-or-false true = refl
-or-false false = refl
-
-pub or-true : (t : Bool) → (t || true) ≡ true
-or-true true = refl
-or-true false = refl
 
 -- ---- digits
 
@@ -89,19 +82,8 @@ pub ruleset start-laws = (start-low-line, start-dollar, start-upper, start-low, 
 
 -- ---- bounds
 
--- two tests that both hold
-pub both : (p q : Bool) → (p && q) ≡ true → (p ≡ true) × (q ≡ true)
-both true true h = (refl, refl)
-both true false h = (refl, h)
-both false q h = let z : _≡_ {A = ℕ} 0 1 = cc in absurd (omega arith)
-
 bounds : (a b x : ℕ) → (leb a x && leb x b) ≡ true → (a ≤ x) × (x ≤ b)
-bounds a b x e = let p : (leb a x ≡ true) × (leb x b ≡ true) = both (leb a x) (leb x b) e in (leb-true a x (p .0), leb-true x b (p .1))
-
--- one of two tests that holds
-pub either : (A : Type 0) (p q : Bool) → (p ≡ true → A) → (q ≡ true → A) → (p || q) ≡ true → A
-either A true q f g h = f refl
-either A false q f g h = g h
+bounds a b x e = (leb-true a x (and-left (leb a x) (leb x b) e), leb-true x b (and-right (leb a x) (leb x b) e))
 
 pub digit-bounds : (x : ℕ) → isDigit x ≡ true → (48 ≤ x) × (x ≤ 57)
 unfolding isDigit
@@ -109,7 +91,7 @@ digit-bounds x e = bounds 48 57 x e
 
 pub letter-bounds : (x : ℕ) → isLetter x ≡ true → (65 ≤ x) × (x ≤ 122)
 unfolding isLetter
-letter-bounds x e = either ((65 ≤ x) × (x ≤ 122)) (leb 65 x && leb x 90) (leb 97 x && leb x 122) upper lower e
+letter-bounds x e = or-cases (leb 65 x && leb x 90) (leb 97 x && leb x 122) e upper lower
   where
     upper : (leb 65 x && leb x 90) ≡ true → (65 ≤ x) × (x ≤ 122)
     upper h = let b : (65 ≤ x) × (x ≤ 90) = bounds 65 90 x h in (omega arith, omega arith)
@@ -120,7 +102,7 @@ letter-bounds x e = either ((65 ≤ x) × (x ≤ 122)) (leb 65 x && leb x 90) (l
 -- a letter or digit is no dot
 pub alphanumeric-bounds : (x : ℕ) → isAlphanumeric x ≡ true → (48 ≤ x) × (x ≤ 122)
 unfolding isAlphanumeric
-alphanumeric-bounds x e = either ((48 ≤ x) × (x ≤ 122)) (isLetter x) (isDigit x) letter digit e
+alphanumeric-bounds x e = or-cases (isLetter x) (isDigit x) e letter digit
   where
     letter : isLetter x ≡ true → (48 ≤ x) × (x ≤ 122)
     letter h = let b : (65 ≤ x) × (x ≤ 122) = letter-bounds x h in (omega arith, omega arith)
@@ -131,7 +113,7 @@ alphanumeric-bounds x e = either ((48 ≤ x) × (x ≤ 122)) (isLetter x) (isDig
 -- the start of a part is printable
 pub start-bounds : (x : ℕ) → isStart x ≡ true → (36 ≤ x) × (x ≤ 122)
 unfolding isStart
-start-bounds x e = either ((36 ≤ x) × (x ≤ 122)) (isLetter x) (eqb x 95 || eqb x 36) letter (either ((36 ≤ x) × (x ≤ 122)) (eqb x 95) (eqb x 36) line dollar) e
+start-bounds x e = or-cases (isLetter x) (eqb x 95 || eqb x 36) e letter (λ o. or-cases (eqb x 95) (eqb x 36) o line dollar)
   where
     letter : isLetter x ≡ true → (36 ≤ x) × (x ≤ 122)
     letter h = let b : (65 ≤ x) × (x ≤ 122) = letter-bounds x h in (omega arith, omega arith)

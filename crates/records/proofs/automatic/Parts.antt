@@ -2,7 +2,7 @@
 use Prim.Native.Nat.{ℕ, suc, _+_, _≤_, _<_}
 use mathlib.Core.Path.{_≡_, refl, sym, _∙_, ap}
 use mathlib.Core.List.{List, [], _∷_}
-use mathlib.Core.Bool.{Bool, true, false, cond, _&&_, _||_, not}
+use mathlib.Core.Bool.{Bool, true, false, cond, _&&_, _||_, not, and-assoc}
 use native.Mathlib.Omega.{arith}
 use native.Mathlib.Numerals.{add-one}
 use lib.ListN.{length, getD, drop, drop-of-length-le}
@@ -10,7 +10,8 @@ use lib.Seq.{drop-cons}
 use lib.Dec.{leb, eqb}
 use borrow.Author.Tests.{eq-eqb, ne-eqb, le-leb, lt-leb, leb-true, eqb-true, not-true, not-false}
 use Rattle.records.proofs.bytes.Laws.{same-eq}
-use Rattle.records.proofs.automatic.Characters.{digit-bounds, start-bounds, either, both}
+use Rattle.records.proofs.automatic.Characters.{digit-bounds, start-bounds}
+use Rattle.records.proofs.Logic.{and-left, and-right, or-cases}
 use Rattle.records.specs.Bytes.{sameBytes}
 use Rattle.records.specs.Name.{allUnnamed, printable}
 use Rattle.records.specs.Automatic.{isDigit, isLetter, isStart, isRest, isPart, inFront, partsOf, allParts, isModuleName}
@@ -26,10 +27,6 @@ walk first (x ∷ xs) = cond (eqb x 46) (not first && walk true xs) (cond first 
 unfoldable restParts : List (List ℕ) → Bool
 restParts [] = true
 restParts (p ∷ ps) = isRest p && allParts ps
-
-and-assoc : (a b c : Bool) → (a && b && c) ≡ (a && (b && c))
-and-assoc true b c = refl
-and-assoc false b c = refl
 
 all-front : (x : ℕ) (ps : List (List ℕ)) → allParts (inFront x ps) ≡ (isStart x && restParts ps)
 unfolding allParts restParts inFront isPart isRest
@@ -118,7 +115,7 @@ pub ruleset parts-laws = (name-long, parts-start, parts-end, parts-empty, parts-
 
 pub module-name-short : (n : List ℕ) → isModuleName n ≡ true → length n ≤ 255
 unfolding isModuleName
-module-name-short n e = leb-true (length n) 255 (both (leb (length n) 255) (allParts (partsOf n)) e .0)
+module-name-short n e = leb-true (length n) 255 (and-left (leb (length n) 255) (allParts (partsOf n)) e)
 
 pub module-name-some : (n : List ℕ) → isModuleName n ≡ true → 0 < length n
 unfolding isModuleName partsOf allParts isPart
@@ -152,16 +149,15 @@ walk-printable f (x ∷ xs) e = go (eqb x 46) refl f e (walk-printable true xs) 
     digit h = let b : (48 ≤ x) × (x ≤ 57) = digit-bounds x h in (omega arith, omega arith)
 
     inside : (c : Bool) → (c ≡ true → (36 ≤ x) × (x ≤ 122)) → (c && walk false xs) ≡ true → (walk false xs ≡ true → printable xs ≡ true) → (leb 0x21 x && leb x 0x7E && printable xs) ≡ true
-    inside c k h ih = let p : (c ≡ true) × (walk false xs ≡ true) = both c (walk false xs) h in rw (named (k (p .0)), ih (p .1))
+    inside c k h ih = rw (named (k (and-left c (walk false xs) h)), ih (and-right c (walk false xs) h))
 
     go : (t : Bool) → eqb x 46 ≡ t → (f : Bool) → cond t (not f && walk true xs) (cond f (isStart x) (isStart x || isDigit x) && walk false xs) ≡ true
         → (walk true xs ≡ true → printable xs ≡ true) → (walk false xs ≡ true → printable xs ≡ true) → (leb 0x21 x && leb x 0x7E && printable xs) ≡ true
     go true et f h k k′ =
         let d : x ≡ 46 = eqb-true x 46 et in
-        let p : (not f ≡ true) × (walk true xs ≡ true) = both (not f) (walk true xs) h in
-        rw (named (omega arith, omega arith), k (p .1))
+        rw (named (omega arith, omega arith), k (and-right (not f) (walk true xs) h))
     go false et true h k k′ = inside (isStart x) start h k′
-    go false et false h k k′ = inside (isStart x || isDigit x) (either ((36 ≤ x) × (x ≤ 122)) (isStart x) (isDigit x) start digit) h k′
+    go false et false h k k′ = inside (isStart x || isDigit x) (λ e. or-cases (isStart x) (isDigit x) e start digit) h k′
 
 pub module-name-printable : (n : List ℕ) → isModuleName n ≡ true → printable n ≡ true
 module-name-printable n e = walk-printable true n (sym (name-walk n (module-name-short n e)) ∙ e)

@@ -2,7 +2,7 @@
 use Prim.Native.Nat.{ℕ, zero, suc, _+_, _*_, _-_, _≤_, _<_}
 use mathlib.Core.Path.{_≡_, refl, sym, _∙_, ap, ap₂}
 use mathlib.Core.List.{List, [], _∷_, _++_}
-use mathlib.Core.Bool.{Bool, true, false, cond, _&&_}
+use mathlib.Core.Bool.{Bool, true, false, cond, _&&_, and-true, and-false, and-assoc, or-false}
 use native.Mathlib.Omega.{arith}
 use native.Mathlib.Numerals.{add-one}
 use lib.ListN.{length, getD, take, drop, drop-of-length-le, List·getD-eq-default, length-take, length-drop}
@@ -12,7 +12,7 @@ use lib.Dec.{ltb, eqb}
 use borrow.Author.Tests.{eq-eqb, ne-eqb, lt-ltb, le-ltb, eqb-true, ltb-true, ltb-false}
 use Rattle.records.specs.Bytes.{sameBytes, beforeBytes, u16At, AgreeAt, DifferAt}
 use Rattle.records.proofs.bytes.Parts.{Splits, PartsAt, cover, parts-more, parts-done}
-use Rattle.records.proofs.Logic.{clash, and-left, and-right, and-true, and-false, and-assoc, or-false}
+use Rattle.records.proofs.Logic.{clash, and-left, and-right}
 
 -- ---- parts
 
@@ -75,7 +75,7 @@ unfolding sameBytes
 same-append [] [] c d e = refl
 same-append [] (y ∷ ys) c d e = absurd (omega arith)
 same-append (x ∷ xs) [] c d e = absurd (omega arith)
-same-append (x ∷ xs) (y ∷ ys) c d e = rw (same-append xs ys c d (omega (arith, e))) (and-assoc (eqb x y) (sameBytes xs ys) (sameBytes c d))
+same-append (x ∷ xs) (y ∷ ys) c d e = rw (same-append xs ys c d (omega (arith, e))) (sym (and-assoc (eqb x y) (sameBytes xs ys) (sameBytes c d)))
 
 -- the n bytes from i on are the same
 abbrev samePart : List ℕ → List ℕ → ℕ → ℕ → Bool

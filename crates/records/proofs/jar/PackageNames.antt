@@ -15,10 +15,10 @@ use Rattle.records.specs.Order.{ordered, packagesOf, allNames, isShort, 
 use Rattle.records.specs.declared.error.Input.the-variants.{Packages}
 use Rattle.records.specs.declared.record.Kind.the-variants.{Package}
 use Rattle.records.specs.declared.request.RecordsAnswer.the-variants as Records
-use Rattle.records.proofs.automatic.Characters.{both}
 use Rattle.records.proofs.order.Ordered.{ordered-all}
 use Rattle.records.proofs.record.Laws.{records-cons, records-none, records-ind, body-front}
 use Rattle.records.proofs.request.Laws.{allBodies, good-bodies}
+use Rattle.records.proofs.Logic.{and-split}
 
 -- printable, of 1 to 255 bytes
 unfoldable pub isPackageName : List ℕ → Bool
@@ -26,21 +26,21 @@ isPackageName n = isShort n && (ltb 0 (length n) && printable n)
 
 name-short : (n : List ℕ) → isPackageName n ≡ true → isShort n ≡ true
 unfolding isPackageName
-name-short n e = both (isShort n) (ltb 0 (length n) && printable n) e .0
+name-short n e = and-split (isShort n) (ltb 0 (length n) && printable n) e .0
 
 pub name-some : (n : List ℕ) → isPackageName n ≡ true → 0 < length n
 unfolding isPackageName
-name-some n e = ltb-true 0 (length n) (both (ltb 0 (length n)) (printable n) (both (isShort n) (ltb 0 (length n) && printable n) e .1) .0)
+name-some n e = ltb-true 0 (length n) (and-split (ltb 0 (length n)) (printable n) (and-split (isShort n) (ltb 0 (length n) && printable n) e .1) .0)
 
 pub name-printable : (n : List ℕ) → isPackageName n ≡ true → printable n ≡ true
 unfolding isPackageName
-name-printable n e = both (ltb 0 (length n)) (printable n) (both (isShort n) (ltb 0 (length n) && printable n) e .1) .1
+name-printable n e = and-split (ltb 0 (length n)) (printable n) (and-split (isShort n) (ltb 0 (length n) && printable n) e .1) .1
 
 pub names-short : (ns : List (List ℕ)) → allNames isPackageName ns ≡ true → allShort ns ≡ true
 unfolding allNames allShort
 names-short [] e = refl
 names-short (n ∷ ns) e =
-    let p : (isPackageName n ≡ true) × (allNames isPackageName ns ≡ true) = both (isPackageName n) (allNames isPackageName ns) e in
+    let p : (isPackageName n ≡ true) × (allNames isPackageName ns ≡ true) = and-split (isPackageName n) (allNames isPackageName ns) e in
     rw (name-short n (p .0)) (names-short ns (p .1))
 
 -- ---- the length byte of a body is one of the string's bytes
@@ -82,9 +82,9 @@ low-more t e ih = record { low = λ h. rw (records-cons t e) (go h (isOf Package
 body-name : (b : List ℕ) → isBody Package b ≡ true → lowFirst b ≡ true → isPackageName (nameOf b) ≡ true
 unfolding isBody isNames isName isField lowFirst isPackageName isShort nameOf
 body-name b e l =
-    let f : (isName b ≡ true) × (isEmpty (afterName b) ≡ true) = both (isName b) (isEmpty (afterName b)) e in
-    let g : (ltb 0 (getD b 0 0) ≡ true) × (isField b ≡ true) = both (ltb 0 (getD b 0 0)) (isField b) (f .0) in
-    let h : (leb (1 + getD b 0 0) (length b) ≡ true) × (printable (nameOf b) ≡ true) = both (leb (1 + getD b 0 0) (length b)) (printable (nameOf b)) (g .1) in
+    let f : (isName b ≡ true) × (isEmpty (afterName b) ≡ true) = and-split (isName b) (isEmpty (afterName b)) e in
+    let g : (ltb 0 (getD b 0 0) ≡ true) × (isField b ≡ true) = and-split (ltb 0 (getD b 0 0)) (isField b) (f .0) in
+    let h : (leb (1 + getD b 0 0) (length b) ≡ true) × (printable (nameOf b) ≡ true) = and-split (leb (1 + getD b 0 0) (length b)) (printable (nameOf b)) (g .1) in
     let m : length (take (getD b 0 0) (drop 1 b)) ≡ getD b 0 0 =
     length-take-le (getD b 0 0) (drop 1 b) (rw length-drop (omega (arith, leb-true (1 + getD b 0 0) (length b) (h .0)))) in
     rw (m, l, g .0) (h .1)
@@ -93,8 +93,8 @@ body-names : (bs : List (List ℕ)) → allBodies (isBody Package) bs ≡ true �
 unfolding allBodies allNames
 body-names [] e l = refl
 body-names (b ∷ bs) e l =
-    let f : (isBody Package b ≡ true) × (allBodies (isBody Package) bs ≡ true) = both (isBody Package b) (allBodies (isBody Package) bs) e in
-    let g : (lowFirst b ≡ true) × (allBodies lowFirst bs ≡ true) = both (lowFirst b) (allBodies lowFirst bs) l in
+    let f : (isBody Package b ≡ true) × (allBodies (isBody Package) bs ≡ true) = and-split (isBody Package b) (allBodies (isBody Package) bs) e in
+    let g : (lowFirst b ≡ true) × (allBodies lowFirst bs ≡ true) = and-split (lowFirst b) (allBodies lowFirst bs) l in
     rw (body-name b (f .0) (g .0)) (body-names bs (f .1) (g .1))
 
 package-known : kindIn Packages (markFor Package) ≡ Package

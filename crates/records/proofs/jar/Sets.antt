@@ -27,8 +27,7 @@ use Rattle.records.specs.declared.request.RecordsAnswer.{RecordsAnswer}
 use Rattle.records.specs.declared.request.RecordsAnswer.the-variants as Records
 use Rattle.records.specs.declared.set.Verdict.the-variants.{Pass}
 use Rattle.records.specs.declared.jar.Written.the-variants.{Bytes, Refused}
-use Rattle.records.proofs.Logic.{clash}
-use Rattle.records.proofs.automatic.Characters.{both}
+use Rattle.records.proofs.Logic.{clash, and-split}
 use Rattle.records.proofs.automatic.Parts.{module-name-short, module-name-some, module-name-printable, module-name-not-unnamed}
 use Rattle.records.proofs.output.Made.{made-mark, made-body, made-whole, groupRecords, automatic-records}
 use Rattle.records.proofs.output.WellFormed.{name-read, module-made, entry-made, package-made}
@@ -87,7 +86,7 @@ module _ (s : List ℕ) (k : Kind) (known : setKind (markFor k) ≡ k) (placed :
   unfolding groupRecords group allNames
   group-passes at [] rs e = let z : at + 0 ≡ at = omega arith in rw z
   group-passes at (n ∷ ns) rs e =
-      let p : (isPackageName n ≡ true) × (allNames isPackageName ns ≡ true) = both (isPackageName n) (allNames isPackageName ns) e in
+      let p : (isPackageName n ≡ true) × (allNames isPackageName ns ≡ true) = and-split (isPackageName n) (allNames isPackageName ns) e in
       let r : List ℕ = recordBytes k (nameBytes n ++ end) in
       let w : at + length r + length (group k end ns) ≡ at + length (r ++ group k end ns) = rw length-append (omega arith) in
       passes s k known placed goes at (nameBytes n ++ end) (groupRecords k end ns ++ rs) (made n (p .0)) ∙ group-passes (at + length r) ns rs (p .1) ∙ rw w

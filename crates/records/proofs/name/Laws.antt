@@ -3,7 +3,7 @@ use Prim.Native.Nat.{ℕ, zero, suc, _+_, _-_, _≤_, _<_, zero-le}
 use Rattle.records.specs.Bytes.{sameBytes, u16At}
 use mathlib.Core.Path.{_≡_, refl, sym, _∙_, ap, ap₂}
 use mathlib.Core.List.{List, [], _∷_, _++_}
-use mathlib.Core.Bool.{Bool, true, false, _&&_, _||_, not}
+use mathlib.Core.Bool.{Bool, true, false, _&&_, _||_, not, and-true, and-false, and-assoc}
 use native.Mathlib.Omega.{arith}
 use native.Mathlib.Nat.{le-antisymm, not-suc-le-zero}
 use native.Mathlib.Numerals.{sub-one}
@@ -12,7 +12,6 @@ use lib.Seq.{drop-cons, drop-drop, take-add, take-length}
 use lib.Dec.{leb, eqb}
 use borrow.Author.Tests.{lt-ltb, le-ltb, le-leb, lt-leb, not-true, not-false}
 use Rattle.records.proofs.bytes.Parts.{Splits, PartsAt, cover, parts-more, parts-done}
-use Rattle.records.proofs.Logic.{and-true, and-false, and-assoc}
 use Rattle.records.specs.Name.{printable, nameOf, afterName, isField, isName, isEmpty, isNames, isList, isVersion, namesOf, listOf, memName}
 
 -- ---- the name at the front
@@ -31,14 +30,14 @@ pub le-false : (good : Bool) (a b : ℕ) → b < a → false ≡ (good && leb a 
 le-false good a b l = sym (rw (lt-leb a b l) (and-false good))
 
 pub le-both : (good : Bool) (b : ℕ) (r s : Bool) → r ≡ (good && leb 0x21 b) → s ≡ (r && leb b 0x7E) → s ≡ (good && (leb 0x21 b && leb b 0x7E))
-le-both good b r s er es = es ∙ rw er (sym (and-assoc good (leb 0x21 b) (leb b 0x7E)))
+le-both good b r s er es = es ∙ rw er (and-assoc good (leb 0x21 b) (leb b 0x7E))
 
 pub ruleset byte-laws = (le-true, le-false, le-both)
 
 printable-append : (a b : List ℕ) → printable (a ++ b) ≡ (printable a && printable b)
 unfolding printable
 printable-append [] b = refl
-printable-append (x ∷ xs) b = rw (printable-append xs b) (and-assoc (leb 0x21 x && leb x 0x7E) (printable xs) (printable b))
+printable-append (x ∷ xs) b = rw (printable-append xs b) (sym (and-assoc (leb 0x21 x && leb x 0x7E) (printable xs) (printable b)))
 
 -- the n bytes from i on are printable
 abbrev printablePart : List ℕ → ℕ → ℕ → Bool

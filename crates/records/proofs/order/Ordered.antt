@@ -2,7 +2,7 @@
 use Prim.Native.Nat.{ℕ, zero, suc, _≤_, _<_}
 use mathlib.Core.Path.{_≡_, refl, sym, _∙_, ap}
 use mathlib.Core.List.{List, [], _∷_, _++_}
-use mathlib.Core.Bool.{Bool, true, false, _||_}
+use mathlib.Core.Bool.{Bool, true, false, _||_, or-true, or-false, or-assoc, or-comm, or-self-left}
 use native.Mathlib.Omega.{arith}
 use lib.ListN.{length, getD, take, drop, take-append-drop, drop-of-length-le}
 use lib.Seq.{drop-cons}
@@ -63,19 +63,8 @@ ordered-is l = from-ordered [] l refl
 
 -- ---- the same names
 
-or-twice : (a b : Bool) → (a || (a || b)) ≡ (a || b)
-or-twice true b = refl
-or-twice false b = refl
-
-or-true : (a : Bool) → (a || true) ≡ true
-or-true true = refl
-or-true false = refl
-
 or-swap : (a b c : Bool) → (a || (b || c)) ≡ (b || (a || c))
-or-swap true true c = refl
-or-swap true false c = refl
-or-swap false true c = refl
-or-swap false false c = refl
+or-swap a b c = sym (or-assoc a b c) ∙ rw (or-comm a b) (or-assoc b a c)
 
 -- the name put in, and those that stood there
 pub insert-mem : (n m : List ℕ) (l : List (List ℕ)) → memName n (insertName m l) ≡ (sameBytes m n || memName n l)
@@ -85,25 +74,15 @@ insert-mem n m (k ∷ l) = go (stands m k) (insert-mem n m l)
   where
     go : Stands m k → memName n (insertName m l) ≡ (sameBytes m n || memName n l) → memName n (insertName m (k ∷ l)) ≡ (sameBytes m n || (sameBytes k n || memName n l))
     go (ahead e) ih = rw e
-    go (there e f) ih = rw (e, f, same-eq m k f) (sym (or-twice (sameBytes k n) (memName n l)))
+    go (there e f) ih = rw (e, f, same-eq m k f) (sym (or-self-left (sameBytes k n) (memName n l)))
     go (behind e f g) ih = rw (e, f, ih) (or-swap (sameBytes k n) (sameBytes m n) (memName n l))
-
-or-assoc : (a b c d : Bool) → d ≡ (a || b) → (d || c) ≡ (b || (a || c))
-or-assoc true true c d e = rw e
-or-assoc true false c d e = rw e
-or-assoc false true c d e = rw e
-or-assoc false false c d e = rw e
 
 -- the names of both lists
 pub from-mem : (n : List ℕ) (done l : List (List ℕ)) → memName n (orderedFrom done l) ≡ (memName n done || memName n l)
 unfolding orderedFrom memName
-from-mem n done [] = go (memName n done)
-  where
-    go : (t : Bool) → t ≡ (t || false)
-    go true = refl
-    go false = refl
+from-mem n done [] = sym (or-false (memName n done))
 from-mem n done (m ∷ l) =
-    from-mem n (insertName m done) l ∙ or-assoc (sameBytes m n) (memName n done) (memName n l) (memName n (insertName m done)) (insert-mem n m done)
+    from-mem n (insertName m done) l ∙ rw (insert-mem n m done) (or-assoc (sameBytes m n) (memName n done) (memName n l) ∙ or-swap (sameBytes m n) (memName n done) (memName n l))
 
 ordered-mem : (n : List ℕ) (l : List (List ℕ)) → memName n (ordered l) ≡ memName n l
 unfolding ordered memName

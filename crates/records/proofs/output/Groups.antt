@@ -18,6 +18,7 @@ use Rattle.records.specs.declared.record.Kind.{Kind}
 use Rattle.records.proofs.output.Written.{put-long, written-two, written-none}
 use Rattle.records.proofs.output.Records.{marked-long}
 use Rattle.records.proofs.output.Sizes.{names-next, names-end}
+use Rattle.records.proofs.Logic.{and-left, and-right}
 
 pub group-marked : (k : Kind) (e : ℕ) (ns : List (List ℕ)) → group k (take e noTargets) ns ≡ groupOf (markFor k) e ns
 unfolding group groupOf recordBytes marked
@@ -32,19 +33,11 @@ groupOf-long m e n ns h =
 -- the first name of short names is short, and so are the others
 pub short-first : (n : List ℕ) (ns : List (List ℕ)) → allShort (n ∷ ns) ≡ true → length n ≤ 255
 unfolding allShort allNames isShort
-short-first n ns e = go (leb (length n) 255) refl e
-  where
-    go : (t : Bool) → leb (length n) 255 ≡ t → (t && allShort ns) ≡ true → length n ≤ 255
-    go true et h = leb-true (length n) 255 et
-    go false et h = let z : _≡_ {A = ℕ} 0 1 = cc in absurd (omega arith)
+short-first n ns e = leb-true (length n) 255 (and-left (leb (length n) 255) (allShort ns) e)
 
 pub short-rest : (n : List ℕ) (ns : List (List ℕ)) → allShort (n ∷ ns) ≡ true → allShort ns ≡ true
 unfolding allShort allNames isShort
-short-rest n ns e = go (leb (length n) 255) e
-  where
-    go : (t : Bool) → (t && allShort ns) ≡ true → allShort ns ≡ true
-    go true h = h
-    go false h = let z : _≡_ {A = ℕ} 0 1 = cc in absurd (omega arith)
+short-rest n ns e = and-right (leb (length n) 255) (allShort ns) e
 
 -- out holds the records of the first i names, up to b
 pub record GroupAt (o : List ℕ) (at m e : ℕ) (s t : List ℕ) (count : ℕ) (out : List ℕ) (b i : ℕ) : Type 0 where

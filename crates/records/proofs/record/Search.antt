@@ -2,7 +2,7 @@
 use Prim.Native.Nat.{ℕ, zero, suc, _+_, _-_, _≤_, _<_}
 use mathlib.Core.Path.{_≡_, refl, sym, _∙_, ap}
 use mathlib.Core.List.{List, [], _∷_}
-use mathlib.Core.Bool.{Bool, true, false, cond, _&&_, not}
+use mathlib.Core.Bool.{Bool, true, false, cond, _&&_, not, and-true}
 use mathlib.Core.Option.{Option, none, some}
 use native.Mathlib.Omega.{arith}
 use lib.ListN.{length, take, drop, length-drop}
@@ -26,10 +26,6 @@ begins-first : (m : ℕ) (a : List ℕ) (l : List (List ℕ)) (b : List ℕ) →
 unfolding begins
 begins-first zero a l b z = absurd (z refl)
 begins-first (suc m) a l b z = rw (sub-one (suc m))
-
-and-true : (b : Bool) → (b && true) ≡ b
-and-true true = refl
-and-true false = refl
 
 pub begins-zero : (body a b c : List ℕ) (count : ℕ) → count ≡ 0 → true ≡ begins (take count (a ∷ b ∷ c ∷ [])) body
 unfolding begins

@@ -2,7 +2,7 @@
 use Prim.Native.Nat.{ℕ, _+_, _≤_, _<_}
 use mathlib.Core.Path.{_≡_, refl, sym, _∙_, ap}
 use mathlib.Core.List.{List, [], _∷_, map}
-use mathlib.Core.Bool.{Bool, true, false, cond, _&&_, _||_, not}
+use mathlib.Core.Bool.{Bool, true, false, cond, _&&_, _||_, not, and-false}
 use mathlib.Core.Option.{some}
 use native.Mathlib.Omega.{arith}
 use lib.ListN.{length, take, drop}
@@ -33,7 +33,7 @@ use Rattle.records.specs.declared.request.Row.{Row}
 use Rattle.records.specs.declared.request.Row.the-variants as Row
 use Rattle.records.specs.declared.request.RecordsAnswer.{RecordsAnswer}
 use Rattle.records.specs.declared.request.RecordsAnswer.the-variants.{Good, Refused}
-use Rattle.records.proofs.Logic.{clash, and-false}
+use Rattle.records.proofs.Logic.{clash}
 use Rattle.records.proofs.record.Kind.{the-type}
 use Rattle.records.proofs.record.Laws.{Stepped, stepped, stepped-bad, stepped-end, stepped-in, records-next, front-mark, front-body, front-length, records-none, records-end, step-less}
 use Rattle.records.proofs.record.Bodies.{bodies-next, bodies-end}

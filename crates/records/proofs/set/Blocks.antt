@@ -9,7 +9,7 @@ use native.Mathlib.Nat.{add-zero}
 use lib.ListN.{length, getD, take, drop, replicate, length-append}
 use lib.Seq.{length-take-le, drop-drop, take-add, getD-take, take-take, take-append-seam}
 use lib.Dec.{leb}
-use borrow.Author.Tests.{leb-true, le-leb}
+use borrow.Author.Tests.{leb-true, le-leb, not-true}
 use Rattle.records.specs.Bytes.{sameBytes, u16At}
 use Rattle.records.specs.Name.{allUnnamed, memName}
 use Rattle.records.specs.Record.{bodyOf, sizeOf, recordMore, whole, records, isOf, bodiesIn, bodies}
@@ -17,7 +17,7 @@ use Rattle.records.specs.Descriptor.{Descriptor, moduleName, headerOf, d
 use Rattle.records.specs.Set.{nameAt, tableOf, checkSet, upToModule, blocksOf, blocks, blockAt, modules, distinct}
 use Rattle.records.specs.declared.record.Kind.the-variants.{Module}
 use Rattle.records.specs.declared.set.SetAnswer.the-variants.{Modules}
-use Rattle.records.proofs.Logic.{clash}
+use Rattle.records.proofs.Logic.{clash, or-left, or-right, or-cases, neither-left, neither-right}
 use Rattle.records.proofs.bytes.Laws.{same-eq, same-refl}
 use Rattle.records.proofs.record.Laws.{joined, records-cons, records-none, records-ind, records-end, splits}
 use Rattle.records.proofs.index.Laws.{map-last}
@@ -184,20 +184,13 @@ parts-length s (a ∷ l) e = ap suc (parts-length s l e)
 
 not-unnamed : (s ss : List ℕ) (a : ℕ) → isNew s ss a ≡ true → sameBytes (nameAt s a) allUnnamed ≡ false
 unfolding isNew
-not-unnamed s ss a e = go (sameBytes (nameAt s a) allUnnamed) (memName (nameAt s a) (map (nameAt s) ss)) e
-  where
-    go : (u m : Bool) → not (u || m) ≡ true → u ≡ false
-    go true m h = clash (cc)
-    go false m h = refl
+not-unnamed s ss a e =
+    neither-left (sameBytes (nameAt s a) allUnnamed) (memName (nameAt s a) (map (nameAt s) ss)) (not-true (sameBytes (nameAt s a) allUnnamed || memName (nameAt s a) (map (nameAt s) ss)) e)
 
 not-before : (s ss : List ℕ) (a : ℕ) → isNew s ss a ≡ true → memName (nameAt s a) (map (nameAt s) ss) ≡ false
 unfolding isNew
-not-before s ss a e = go (sameBytes (nameAt s a) allUnnamed) (memName (nameAt s a) (map (nameAt s) ss)) e
-  where
-    go : (u m : Bool) → not (u || m) ≡ true → m ≡ false
-    go true m h = clash (cc)
-    go false true h = clash (cc)
-    go false false h = refl
+not-before s ss a e =
+    neither-right (sameBytes (nameAt s a) allUnnamed) (memName (nameAt s a) (map (nameAt s) ss)) (not-true (sameBytes (nameAt s a) allUnnamed || memName (nameAt s a) (map (nameAt s) ss)) e)
 
 not-same : (s ss : List ℕ) (a : ℕ) (n : List ℕ) → isNew s ss a ≡ true → memName n (map (nameAt s) ss) ≡ true → sameBytes (nameAt s a) n ≡ false
 not-same s ss a n e h = go (sameBytes (nameAt s a) n) refl
@@ -213,20 +206,13 @@ not-same s ss a n e h = go (sameBytes (nameAt s a) n) refl
 mem-left : (n : List ℕ) (a b : List (List ℕ)) → memName n a ≡ true → memName n (a ++ b) ≡ true
 unfolding memName
 mem-left n [] b e = clash (cc)
-mem-left n (m ∷ a) b e = go (sameBytes m n) (mem-left n a b) e
-  where
-    go : (t : Bool) → (memName n a ≡ true → memName n (a ++ b) ≡ true) → (t || memName n a) ≡ true → (t || memName n (a ++ b)) ≡ true
-    go true ih h = refl
-    go false ih h = ih h
+mem-left n (m ∷ a) b e =
+    or-cases (sameBytes m n) (memName n a) e (or-left (sameBytes m n) (memName n (a ++ b))) (λ h. or-right (sameBytes m n) (memName n (a ++ b)) (mem-left n a b h))
 
 mem-last : (n : List ℕ) (a : List (List ℕ)) → memName n (a ++ (n ∷ [])) ≡ true
 unfolding memName
 mem-last n [] = rw (same-refl n)
-mem-last n (m ∷ a) = go (sameBytes m n) (mem-last n a)
-  where
-    go : (t : Bool) → memName n (a ++ (n ∷ [])) ≡ true → (t || memName n (a ++ (n ∷ []))) ≡ true
-    go true ih = refl
-    go false ih = ih
+mem-last n (m ∷ a) = or-right (sameBytes m n) (memName n (a ++ (n ∷ []))) (mem-last n a)
 
 -- the names from here on are none of those in front, stand but once, and none is ALL-UNNAMED
 record Apart (s ss l : List ℕ) : Type 0 where

@@ -10,14 +10,10 @@ use Rattle.records.specs.Record.{markOf, bodyOf, recordMore, whole, reco
 use Rattle.records.specs.Set.{checkSet, upToModule, blocksOf, blocks}
 use Rattle.records.specs.declared.record.Kind.the-variants.{Module, Requires}
 use Rattle.records.specs.declared.set.SetAnswer.the-variants.{Modules}
-use Rattle.records.proofs.Logic.{and-left, and-right}
+use Rattle.records.proofs.Logic.{and-left, and-right, and-both}
 use Rattle.records.proofs.record.Laws.{records-cons, records-none, records-ind}
 use Rattle.records.proofs.set.Blocks.{front-first}
 use Rattle.records.proofs.set.Table.{areGood, taken}
-
-both : {a b : Bool} → a ≡ true → b ≡ true → a && b ≡ true
-both {a = true} p q = q
-both {a = false} p q = p
 
 -- where the records of t are well-formed, so are those up to the next MO, and those of each block
 record GoodParts (t : List ℕ) : Type 0 where
@@ -57,7 +53,7 @@ parts-more t e ih = record {
     later h = and-right (isBody (setKind (markOf f)) (bodyOf f)) (areGood (records u)) (split h)
 
     joined : isBody (setKind (markOf f)) (bodyOf f) ≡ true → areGood (records x) ≡ true → areGood (records (f ++ x)) ≡ true
-    joined h k = ap areGood (front-first t x e) ∙ both h k
+    joined h k = ap areGood (front-first t x e) ∙ and-both h k
 
     fronts : (b : Bool) → isBody (setKind (markOf f)) (bodyOf f) ≡ true → areGood (records x) ≡ true → areGood (records (cond b [] (f ++ x))) ≡ true
     fronts true h k = refl

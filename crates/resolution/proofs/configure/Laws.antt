@@ -18,6 +18,7 @@ use Rattle.records.specs.Set.{checkSet, nameAt, modules, distinct}
 use Rattle.records.specs.declared.error.ModuleError.{ModuleError}
 use Rattle.records.specs.declared.set.SetAnswer.the-variants.{Modules}
 use Rattle.records.proofs.set.Blocks.{GoodSet, good-set}
+use Rattle.records.proofs.Logic.{by, true≠false}
 use Rattle.resolution.specs.Lists.{Name, Mem, any}
 use Rattle.resolution.specs.Resolution.{names, find, hasModule}
 use Rattle.resolution.specs.Positions.{moduleAt}
@@ -29,7 +30,7 @@ use Rattle.resolution.specs.Configure.{MemberRow, AcceptedWith, Configur
 use Rattle.resolution.specs.declared.resolve.Outcome.the-variants.{Accepted, Refused}
 use Rattle.resolution.specs.declared.resolve.Resolution.{Resolution}
 use Rattle.resolution.proofs.Find.{has-find, unique-of}
-use Rattle.resolution.proofs.Lists.{any-out, by, map-out, true≠false}
+use Rattle.resolution.proofs.Lists.{any-out, map-out}
 use Rattle.resolution.proofs.Positions.{at-mem, index-at, has-at}
 use Rattle.resolution.proofs.Sets.{set-length}
 use Rattle.resolution.proofs.Words.{words-are, edges-are}

@@ -10,13 +10,14 @@ use lib.Seq.{take-suc}
 use Rattle.records.specs.Bytes.{sameBytes}
 use Rattle.records.specs.Set.{blockAt}
 use Rattle.records.proofs.bytes.Laws.{same-refl}
+use Rattle.records.proofs.Logic.{by, or-left, true≠false}
 use Rattle.records.specs.Name.{memName, nameOf}
 use Rattle.records.specs.Record.{bodies}
 use Rattle.records.specs.declared.record.Kind.{Kind}
 use Rattle.resolution.specs.Lists.{Name, Mem, any}
 use Rattle.resolution.specs.Resolver.{Inputs, blockOf, namesOf, hasNamed}
 use Rattle.resolution.specs.Filter.{isMarked, MarkedAll, Covers, asked}
-use Rattle.resolution.proofs.Lists.{any-out, by, or-l, true≠false}
+use Rattle.resolution.proofs.Lists.{any-out}
 
 module _ (w : Inputs) (k : Kind) where
   -- no module is seen
@@ -54,4 +55,4 @@ covers-next set starts k words words₁ order b n i l ei eb c m =
 -- the name that was marked is
 pub marked-new : (words : List ℕ) (n : Name) (words₁ : List ℕ) → MarkedAll words (n ∷ []) words₁ → isMarked words₁ n ≡ true
 unfolding memName
-marked-new words n words₁ m = m .new n (or-l (sameBytes n n) false (same-refl n))
+marked-new words n words₁ m = m .new n (or-left (sameBytes n n) false (same-refl n))

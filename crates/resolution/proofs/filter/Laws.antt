@@ -17,10 +17,11 @@ use Rattle.records.specs.declared.record.Next.{Next}
 use Rattle.records.specs.declared.record.Next.the-variants.{Body, Nothing}
 use Rattle.records.specs.declared.record.Kind.{Kind}
 use Rattle.records.proofs.record.Bodies.{bodies-next, bodies-end, next-room, next-less}
+use Rattle.records.proofs.Logic.{by, and-left, and-right, and-both, or-left, or-right, or-cases, true≠false, neither-left, neither-right}
 use Rattle.resolution.specs.Lists.{Name, any}
 use Rattle.resolution.specs.Graph.{edge, AddedEdge}
 use Rattle.resolution.specs.Filter.{bitAt, hasBits, isMarked, BitsSet, MarkedAll}
-use Rattle.resolution.proofs.Lists.{by, and-l, and-r, and-i, or-l, or-r, or-e, same→, true≠false}
+use Rattle.resolution.proofs.Lists.{same→}
 
 -- ---- the bits of a number
 
@@ -40,22 +41,22 @@ module _ (g : List ℕ) (h : ℕ) (g₁ : List ℕ) (l : h < 65536) (e : AddedEd
   unfolding bitAt
   bit-kept x t =
       e .edges (omega arith) (omega arith) (x / 256) (x % 256)
-      ∙ or-l (edge g (x / 256) (x % 256)) (eqb (x / 256) (h / 256) && eqb (x % 256) (h % 256)) t
+      ∙ or-left (edge g (x / 256) (x % 256)) (eqb (x / 256) (h / 256) && eqb (x % 256) (h % 256)) t
 
   bit-new : bitAt g₁ h ≡ true
   unfolding bitAt
   bit-new =
       e .edges (omega arith) (omega arith) (h / 256) (h % 256)
-      ∙ or-r (edge g (h / 256) (h % 256)) (eqb (h / 256) (h / 256) && eqb (h % 256) (h % 256))
-      (and-i (eq-eqb (h / 256) (h / 256) refl) (eq-eqb (h % 256) (h % 256) refl))
+      ∙ or-right (edge g (h / 256) (h % 256)) (eqb (h / 256) (h / 256) && eqb (h % 256) (h % 256))
+      (and-both (eq-eqb (h / 256) (h / 256) refl) (eq-eqb (h % 256) (h % 256) refl))
 
 two-set : (g : List ℕ) (h a b : ℕ) (g₁ g₂ : List ℕ) → a ≡ h % 65536 → b ≡ h / 65536 % 65536 → AddedEdge g (a / 256) (a % 256) g₁ → AddedEdge g₁ (b / 256) (b % 256) g₂
     → BitsSet g h g₂
 unfolding hasBits
 two-set g h a b g₁ g₂ ea eb p q = record {
-  kept = λ x t. and-i (on (x % 65536) (and-l (bitAt g (x % 65536)) (bitAt g (x / 65536 % 65536)) t))
-      (on (x / 65536 % 65536) (and-r (bitAt g (x % 65536)) (bitAt g (x / 65536 % 65536)) t));
-  new = and-i (subst (λ (x : ℕ). bitAt g₂ x ≡ true) ea (bit-kept g₁ b g₂ lb q a (bit-new g a g₁ la p)))
+  kept = λ x t. and-both (on (x % 65536) (and-left (bitAt g (x % 65536)) (bitAt g (x / 65536 % 65536)) t))
+      (on (x / 65536 % 65536) (and-right (bitAt g (x % 65536)) (bitAt g (x / 65536 % 65536)) t));
+  new = and-both (subst (λ (x : ℕ). bitAt g₂ x ≡ true) ea (bit-kept g₁ b g₂ lb q a (bit-new g a g₁ la p)))
       (subst (λ (x : ℕ). bitAt g₂ x ≡ true) eb (bit-new g₁ b g₂ lb q));
 }
   where
@@ -83,7 +84,7 @@ module _ (words : List ℕ) (n : Name) (h : ℕ) (eh : h ≡ hashOf n) where
   unfolding isMarked memName
   mark-is words₁ b = record {
     kept = λ x t. b .kept (hashOf x) t;
-    new = λ x t. or-e (sameBytes n x) false t (λ s. subst (λ (y : Name). isMarked words₁ y ≡ true) (sym (same→ x n s)) here) (λ f. true≠false f refl);
+    new = λ x t. or-cases (sameBytes n x) false t (λ s. subst (λ (y : Name). isMarked words₁ y ≡ true) (sym (same→ x n s)) here) (λ f. true≠false f refl);
   }
     where
       here : isMarked words₁ n ≡ true
@@ -102,14 +103,6 @@ pub record MarkAt (k : Kind) (block before words : List ℕ) (at : ℕ) (met : B
   pub left : (n : Name) → memName n (map nameOf (bodies k block)) ≡ true
       → (isMarked words n ≡ true) ⊎ (memName n (map nameOf (bodies k (drop at block))) ≡ true)
   pub unmet : met ≡ false → any (isMarked before) (map nameOf (bodies k block)) ≡ any (isMarked before) (map nameOf (bodies k (drop at block)))
-
-neither-l : (a b : Bool) → (a || b) ≡ false → a ≡ false
-neither-l true b e = e
-neither-l false b e = refl
-
-neither-r : (a b : Bool) → (a || b) ≡ false → b ≡ false
-neither-r true b e = true≠false refl e
-neither-r false b e = e
 
 pub names-start : (k : Kind) (block words : List ℕ) → length words ≡ 1024 → MarkAt k block words words 0 false
 names-start k block words e = record { within = omega arith; long = refl; wide = e; kept = λ n t. t; left = λ n t. inr t; unmet = λ f. refl }
@@ -150,15 +143,15 @@ module _ (k : Kind) (block before words : List ℕ) (at : ℕ) (met : Bool) (h :
           passed : (met || was) ≡ false
               → any (isMarked before) (map nameOf (bodies k block)) ≡ any (isMarked before) (map nameOf (bodies k (drop (next .at) block)))
           passed f =
-              h .unmet (neither-l met was f) ∙ rw (bodies-next k block at r er start len next e (h .within), new (neither-r met was f))
+              h .unmet (neither-left met was f) ∙ rw (bodies-next k block at r er start len next e (h .within), new (neither-right met was f))
 
           turned : (x : Name) → memName x (map nameOf (bodies k (drop at block))) ≡ true
               → (isMarked words₁ x ≡ true) ⊎ (memName x (map nameOf (bodies k (drop (next .at) block))) ≡ true)
           turned x s =
               let p : (sameBytes (nameOf (take len (drop start block))) x || memName x (map nameOf (bodies k (drop (next .at) block)))) ≡ true =
               rw (bodies-next k block at r er start len next e (h .within)) at s in
-              or-e (sameBytes (nameOf (take len (drop start block))) x) (memName x (map nameOf (bodies k (drop (next .at) block)))) p
-              (λ q. inl (m .new x (or-l (sameBytes n x) false (ap (λ (y : Name). sameBytes y x) name-is ∙ q)))) (λ q. inr q)
+              or-cases (sameBytes (nameOf (take len (drop start block))) x) (memName x (map nameOf (bodies k (drop (next .at) block)))) p
+              (λ q. inl (m .new x (or-left (sameBytes n x) false (ap (λ (y : Name). sameBytes y x) name-is ∙ q)))) (λ q. inr q)
 
     pub names-done : r ≡ Nothing → MarkedAll before (map nameOf (bodies k block)) words
     unfolding memName

@@ -1,7 +1,7 @@
 -- The names of the request's LM in order.
 use Prim.Native.Nat.{ℕ, zero, suc, _+_, _-_, _^_, _≤_, _<_}
 use mathlib.Core.Path.{_≡_, refl, sym, _∙_, ap}
-use mathlib.Core.Bool.{Bool, true, false, _||_}
+use mathlib.Core.Bool.{Bool, true, false, _||_, or-true}
 use mathlib.Core.List.{List, [], _∷_, map}
 use native.Mathlib.Omega.{arith}
 use lib.Dec.{ltb, leb}
@@ -63,10 +63,6 @@ module _ (s : List ℕ) (r : Next) (er : r ≡ nextOf Kind.LimitModules s 0) whe
   pub limited-none : r ≡ Nothing → Limited s false
   unfolding isPermitted requestOf limitOf withinLimit
   limited-none e = record { free = λ z x. rw (bodies-end Kind.LimitModules s 0 r er e) (or-true (sameBytes x javaBase)) }
-    where
-      or-true : (a : Bool) → (a || true) ≡ true
-      or-true true = refl
-      or-true false = refl
 
   -- ---- its names
 

@@ -21,12 +21,12 @@ use Rattle.records.specs.declared.record.Next.{Next}
 use Rattle.records.specs.declared.record.Next.the-variants as Next
 use Rattle.records.specs.declared.record.Kind.{Kind}
 use Rattle.records.specs.declared.record.Kind.the-variants as Kind
-use Rattle.records.proofs.Logic.{clash}
+use Rattle.records.proofs.Logic.{clash, by}
 use Rattle.records.proofs.record.Bodies.{bodies-next, bodies-end, next-room, next-less}
 use Rattle.resolution.specs.Lists.{Name, any, first}
 use Rattle.resolution.specs.Resolver.{Inputs, blockOf, namesOf, hasNamed, requiresName, isMetBefore, ownerAt}
 use Rattle.resolution.specs.Filter.{isMarked, Covers, asked, askedBefore, foundOf, firstNamed, requiresIn, isRequired}
-use Rattle.resolution.proofs.Lists.{any-in, any-out, by, first-in, first-out}
+use Rattle.resolution.proofs.Lists.{any-in, any-out, first-in, first-out}
 use Rattle.resolution.proofs.filter.Covers.{covers-not}
 
 -- ---- the positions from k on

@@ -23,6 +23,7 @@ use Rattle.records.proofs.order.Packages.{name-short as short, entry-name as en
 use Rattle.records.proofs.order.Laws.{drop-take}
 use Rattle.records.proofs.order.Ordered.{ordered-is, ordered-keeps, ordered-adds-none}
 use Rattle.records.proofs.record.Bodies.{bodies-next, bodies-end, next-room, next-later, next-less, body-room}
+use Rattle.records.proofs.Logic.{by, true≠false}
 use Rattle.resolution.specs.Lists.{Name, Mem, any, keep}
 use Rattle.resolution.specs.Owner.{least, lesser}
 use Rattle.resolution.specs.Resolver.{blockOf, namesOf, hasNamed, splitOf, splitAt}
@@ -30,7 +31,7 @@ use Rattle.resolution.specs.Filter.{isMarked, MarkedAll, Covers, leastOf
 use Rattle.resolution.specs.declared.modules.Least.{Least}
 use Rattle.resolution.specs.declared.resolver.Halt.{Halt}
 use Rattle.resolution.specs.declared.resolver.Halt.the-variants as Halt
-use Rattle.resolution.proofs.Lists.{by, true≠false, memName-in, memName-out, any-in, any-out, any-no, keep-in, keep-out, flat-in, flat-out}
+use Rattle.resolution.proofs.Lists.{memName-in, memName-out, any-in, any-out, any-no, keep-in, keep-out, flat-in, flat-out}
 use Rattle.resolution.proofs.filter.Covers.{covers-not}
 use Rattle.resolution.proofs.modules.Laws.{rest-more, rest-past, rest-none}
 

@@ -1,7 +1,7 @@
 -- The providers of a round, one module of the set after the other.
 use Prim.Native.Nat.{ℕ, zero, suc, _+_, _-_, _≤_, _<_}
 use mathlib.Core.Path.{_≡_, refl, sym, _∙_, ap, subst}
-use mathlib.Core.Bool.{Bool, true, false, not, _&&_, _||_}
+use mathlib.Core.Bool.{Bool, true, false, not, _&&_, _||_, and-false, and-or-distrib-left}
 use mathlib.Core.List.{List, [], _∷_, _++_, map}
 use native.Mathlib.Omega.{arith}
 use lib.Dec.{eqb}
@@ -13,7 +13,7 @@ use Rattle.records.specs.Record.{bodies}
 use Rattle.records.specs.Set.{blockAt}
 use Rattle.records.specs.declared.record.Kind.{Kind}
 use Rattle.records.specs.declared.record.Kind.the-variants as Kind
-use Rattle.records.proofs.Logic.{clash, and-false}
+use Rattle.records.proofs.Logic.{clash, by, or-left, or-right, true≠false}
 use Rattle.resolution.specs.Lists.{Name, any}
 use Rattle.resolution.specs.Row.{holds, countBelow}
 use Rattle.resolution.specs.Resolver.{Inputs, inputsOf, blockOf, namesOf, hasNamed, Line, lineAt, isOneOf, pickLine, queuedAt, queuedOn, queued, isProviderAt, offeredAt, provideFrom, provideAt, isDone, Within, Ready, Moved}
@@ -26,7 +26,6 @@ use Rattle.resolution.specs.declared.resolver.Phase.{Phase}
 use Rattle.resolution.specs.declared.resolver.Queue.{Queue}
 use Rattle.resolution.specs.declared.resolver.Wanted.the-variants.{Add}
 use Rattle.resolution.specs.declared.table.Listed.{Listed}
-use Rattle.resolution.proofs.Lists.{by, or-l, or-r, true≠false}
 use Rattle.resolution.proofs.ResolverQueue.{any-append}
 use Rattle.resolution.proofs.ResolverRun.{any-same}
 use Rattle.resolution.proofs.modules.Asked.{provider-asked}
@@ -52,7 +51,7 @@ one-append i a b = any-append (eqb i) a b
 
 -- a position that is in a line stays there
 pub one-grown : (l l₂ : Line) (i : ℕ) → Grown l l₂ → isOneOf i (l .order) ≡ true → isOneOf i (l₂ .order) ≡ true
-one-grown l l₂ i g e = ap (isOneOf i) (g .order) ∙ one-append i (l .order) (g .more) ∙ or-l (isOneOf i (l .order)) (isOneOf i (g .more)) e
+one-grown l l₂ i g e = ap (isOneOf i) (g .order) ∙ one-append i (l .order) (g .more) ∙ or-left (isOneOf i (l .order)) (isOneOf i (g .more)) e
 
 -- ---- providers of services that some modules use, and others
 
@@ -66,11 +65,7 @@ provider-append w a b i =
     ap (λ (c : Bool). holds (w .permitted) i && c)
     (any-same (hasNamed w Kind.Uses (a ++ b)) (λ (n : Name). hasNamed w Kind.Uses a n || hasNamed w Kind.Uses b n) (namesOf w Kind.Provides i) (named-append w Kind.Uses a b)
     ∙ any-or (hasNamed w Kind.Uses a) (hasNamed w Kind.Uses b) (namesOf w Kind.Provides i))
-    ∙ and-or (holds (w .permitted) i) (any (hasNamed w Kind.Uses a) (namesOf w Kind.Provides i)) (any (hasNamed w Kind.Uses b) (namesOf w Kind.Provides i))
-  where
-    and-or : (u v z : Bool) → (u && (v || z)) ≡ ((u && v) || (u && z))
-    and-or true v z = refl
-    and-or false v z = refl
+    ∙ and-or-distrib-left (holds (w .permitted) i) (any (hasNamed w Kind.Uses a) (namesOf w Kind.Provides i)) (any (hasNamed w Kind.Uses b) (namesOf w Kind.Provides i))
 
 -- of a module that provides no service that the first `from` use, the others decide
 provider-rest : (w : Inputs) (ps : List ℕ) (from to i : ℕ) → from ≤ to → isProviderAt w (take from ps) i ≡ false → isProviderAt w (drop from (take to ps)) i ≡ isProviderAt w (take to ps) i
@@ -143,7 +138,7 @@ offered-in w ps i l d e = ap (λ (b : Bool). isOneOf i (pickLine b (queued (Add 
   where
     added : (b : Bool) → isOneOf i (l .order) ≡ b → isOneOf i (pickLine b l (record { order = l .order ++ (i ∷ []); head = l .head; halt = l .halt }) .order) ≡ true
     added true t = t
-    added false t = one-append i (l .order) (i ∷ []) ∙ or-r (isOneOf i (l .order)) (isOneOf i (i ∷ [])) (one-self i)
+    added false t = one-append i (l .order) (i ∷ []) ∙ or-right (isOneOf i (l .order)) (isOneOf i (i ∷ [])) (one-self i)
 
     go : (h : Halt) → isDone h ≡ true → isOneOf i (queuedOn h (Add i) l .order) ≡ true
     go Halt.Open t = added (isOneOf i (l .order)) refl

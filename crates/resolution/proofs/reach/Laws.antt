@@ -5,24 +5,23 @@ use mathlib.Core.List.{List}
 use Prim.Native.Nat.{ℕ, _+_, _≤_, _<_}
 use native.Mathlib.Omega.{arith}
 use lib.ListN.{length}
+use borrow.Author.Tests.{not-true}
+use Rattle.records.proofs.Logic.{true≠false, and-left, and-right}
 use Rattle.resolution.specs.Row.{holds, Added, FirstFrom}
 use Rattle.resolution.specs.Graph.{edge, lacks, Collected, ReachedFrom, unmarked}
-use Rattle.resolution.proofs.reach.Search.{Gathered, clash, start, skip, visit, fewer, gather-start, gather-skip, gather-visit, gather-all}
+use Rattle.resolution.proofs.reach.Search.{Gathered, start, skip, visit, fewer, gather-start, gather-skip, gather-visit, gather-all}
 
 -- an edge to what is not marked: there is the edge, and no mark; where there is none such, an edge leads to a mark
 lack-edge : (a b : Bool) → (a && not b) ≡ true → a ≡ true
-lack-edge true b h = refl
-lack-edge false b h = h
+lack-edge a b h = and-left a (not b) h
 
 lack-mark : (a b : Bool) → (a && not b) ≡ true → b ≡ false
-lack-mark true true h = absurd (clash false h refl)
-lack-mark true false h = refl
-lack-mark false b h = absurd (clash false h refl)
+lack-mark a b h = not-true b (and-right a (not b) h)
 
 no-lack : (a b : Bool) → (a && not b) ≡ false → a ≡ true → b ≡ true
 no-lack true true h e = refl
-no-lack true false h e = absurd (clash true refl h)
-no-lack false b h e = absurd (clash false e refl)
+no-lack true false h e = true≠false refl h
+no-lack false b h e = true≠false e refl
 
 -- the successors of m below k are looked at
 pub record CollectAt (g : List ℕ) (m : ℕ) (before out : List ℕ) (k : ℕ) : Type 0 where

@@ -8,35 +8,18 @@ use native.Mathlib.Nat.{eq-or-lt-of-le}
 use native.Mathlib.Omega.{arith}
 use lib.Dec.{eqb, ltb}
 use borrow.Author.Tests.{eq-eqb, eqb-true, ltb-true, ltb-false}
-use Rattle.resolution.specs.Row.{holds}
 use lib.ListN.{length}
+use Rattle.records.proofs.Logic.{true≠false, by, or-left, or-right, or-cases}
+use Rattle.resolution.specs.Row.{holds}
 use Rattle.resolution.specs.Graph.{edge, Reach, step, then, Collected, unmarked, ReachedFrom}
 use Rattle.resolution.proofs.reach.Edges.{edge-below, edge-out}
 use Rattle.resolution.proofs.row.Counts.{count-strict}
-
-pub clash : (b : Bool) → b ≡ true → b ≡ false → ⊥
-clash b p q = let z : _≡_ {A = ℕ} 0 1 = cc in omega arith
-
-pub or-cases : (a b : Bool) → (a || b) ≡ true → (a ≡ true) ⊎ (b ≡ true)
-or-cases true b h = inl refl
-or-cases false b h = inr h
-
-pub or-left : (a b : Bool) → a ≡ true → (a || b) ≡ true
-or-left a b h = ap (λ (t : Bool). t || b) h
-
-pub or-right : (a b : Bool) → b ≡ true → (a || b) ≡ true
-or-right true b h = refl
-or-right false b h = h
 
 below-next : (k j : ℕ) → j < k + 1 → (j ≡ k) ⊎ (j < k)
 below-next k j h = eq-or-lt-of-le (omega arith)
 
 lt-or-le : (m n : ℕ) → (m < n) ⊎ (n ≤ m)
-lt-or-le m n = go (ltb m n) refl
-  where
-    go : (t : Bool) → ltb m n ≡ t → (m < n) ⊎ (n ≤ m)
-    go true h = inl (ltb-true m n h)
-    go false h = inr (ltb-false m n h)
+lt-or-le m n = by (ltb m n) (λ h. inl (ltb-true m n h)) (λ h. inr (ltb-false m n h))
 
 -- a path that starts one edge earlier
 pub prepend : {g : List ℕ} {m k j : ℕ} → edge g m k ≡ true → Reach g k j → Reach g m j
@@ -68,7 +51,7 @@ module _ (g : List ℕ) (m : ℕ) where
     new = v .kept k (w k ∙ or-right (holds out k) (eqb k k) (eq-eqb k k refl))
 
     cases : (j : ℕ) → holds marked j ≡ true → (holds out j ≡ true) ⊎ (j ≡ k)
-    cases j h = ⊎-elim (λ p. inl p) (λ p. inr (eqb-true j k p)) (or-cases (holds out j) (eqb j k) (sym (w j) ∙ h))
+    cases j h = or-cases (holds out j) (eqb j k) (sym (w j) ∙ h) (λ p. inl p) (λ p. inr (eqb-true j k p))
 
     pub visit : Collected g m (k + 1) before after
     visit = record {
@@ -92,7 +75,7 @@ module _ (g : List ℕ) (m : ℕ) where
       count-strict (λ j. not (holds marked j)) (λ j. not (holds before j)) 256 k l
       (λ j b h. un (holds marked j) (holds before j) (λ p. w j ∙ or-left (holds out j) (eqb j k) (s .kept j p)) h)
       (ap not (w k ∙ or-right (holds out k) (eqb k k) (eq-eqb k k refl)))
-      (lack (holds before k) (λ p. clash (holds out k) (s .kept k p) u))
+      (lack (holds before k) (λ p. true≠false (s .kept k p) u))
     where
       lack : (a : Bool) → (a ≡ true → ⊥) → not a ≡ true
       lack true f = absurd (f refl)
@@ -100,7 +83,7 @@ module _ (g : List ℕ) (m : ℕ) where
 
       un : (a b : Bool) → (b ≡ true → a ≡ true) → not a ≡ true → not b ≡ true
       un a false f h = refl
-      un a true f h = absurd (clash (not a) h (ap not (f refl)))
+      un a true f h = true≠false h (ap not (f refl))
 
 -- ---- from every position of a row
 
@@ -121,7 +104,7 @@ module _ (g from : List ℕ) where
     kept = s .kept;
     sound = s .sound;
     closed = s .closed;
-    next = λ m l h i e. ⊎-elim (λ b. s .next m b h i e) (λ b. absurd (clash (holds from m) h (none m b l))) (lt-or-le m k);
+    next = λ m l h i e. ⊎-elim (λ b. s .next m b h i e) (λ b. true≠false h (none m b l)) (lt-or-le m k);
   }
 
   -- k is in the row, and is visited
@@ -138,7 +121,7 @@ module _ (g from : List ℕ) where
   module _ (after : List ℕ) (len : length g ≡ 1024) (s : Gathered g 256 from after) where
     -- a successor of what the row holds
     onward : (m k : ℕ) → holds from m ≡ true → edge g m k ≡ true → holds after k ≡ true
-    onward m k h e = ⊎-elim (λ l. s .next m l h k e) (λ l. absurd (clash (edge g m k) e (edge-out g m k len l))) (lt-or-le m 256)
+    onward m k h e = ⊎-elim (λ l. s .next m l h k e) (λ l. true≠false e (edge-out g m k len l)) (lt-or-le m 256)
 
     closes : (m j : ℕ) → holds from m ≡ true → Reach g m j → holds after j ≡ true
     closes m j h (step e) = onward m j h e

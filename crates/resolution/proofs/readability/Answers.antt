@@ -7,7 +7,7 @@ use mathlib.Core.List.{List, [], _∷_, map, flatMap, List·Memᴰ·not-nil, Lis
 use mathlib.Core.Logic.{⊎-elim}
 use lib.Dec.{eqb, ltb}
 use lib.ListN.{length, getD, drop}
-use borrow.Author.Tests.{eq-eqb, eqb-true, ltb-true, lt-ltb}
+use borrow.Author.Tests.{eq-eqb, eqb-true, ltb-true, lt-ltb, not-true}
 use Rattle.records.specs.Bytes.{sameBytes}
 use Rattle.records.specs.Name.{javaBase, allUnnamed, memName, nameOf, isNameVersion}
 use Rattle.records.specs.Record.{bodies, isBody, isRequires}
@@ -19,6 +19,7 @@ use Rattle.records.specs.declared.record.Kind.the-variants as Kind
 use Rattle.records.proofs.bytes.Laws.{same-eq, same-refl}
 use Rattle.records.proofs.set.Blocks.{GoodSet, good-set}
 use Rattle.records.proofs.set.Good.{good-requires}
+use Rattle.records.proofs.Logic.{and-both, and-left, and-right, by, or-cases, or-left, or-right, true≠false}
 use Rattle.resolution.specs.Lists.{Name, Mem, keep}
 use Rattle.resolution.specs.Resolution.{names, hasModule, indexOf}
 use Rattle.resolution.specs.Reads.{directReads, requiredNames, impliedReads, readsFrom, reads}
@@ -30,7 +31,7 @@ use Rattle.resolution.specs.Readability.{tableNames, isNamed, transitive
 use Rattle.resolution.proofs.Closure.{closure-least}
 use Rattle.resolution.proofs.Edges.{read-in, read-out, transitive-in}
 use Rattle.resolution.proofs.Find.{has-some}
-use Rattle.resolution.proofs.Lists.{and-i, and-l, and-r, any-in, any-out, by, flat-out, keep-out, map-in, map-out, memName-in, memName-out, not-t, or-e, or-l, or-r, true≠false, →same}
+use Rattle.resolution.proofs.Lists.{any-in, any-out, flat-out, keep-out, map-in, map-out, memName-in, memName-out, →same}
 use Rattle.resolution.proofs.Positions.{find-none, at-mem, index-at}
 use Rattle.resolution.proofs.Sets.{set-length, module-block}
 use Rattle.resolution.proofs.readability.Resolved.{each-way, member-out, member-in, member-is, member-at, named-out, named-in, from-member, own-names, reached-out, reached-direct, reached-implied}
@@ -75,22 +76,22 @@ module _ (s : List Descriptor) (d : distinct (names s) ≡ true) (free : memName
   edge-true i j e f t =
       let a = member-out s d ws ms h i e in
       let b = member-out s d ws ms h j f in
-      and-i (lt-ltb i (length s) (a .0)) (and-i (lt-ltb j (length s) (b .0))
-      (from-source i (nameAt j) e (and-i (or-l (hasModule ms (nameAt j)) (sameBytes (nameAt j) allUnnamed) (b .1)) t)))
+      and-both (lt-ltb i (length s) (a .0)) (and-both (lt-ltb j (length s) (b .0))
+      (from-source i (nameAt j) e (and-both (or-left (hasModule ms (nameAt j)) (sameBytes (nameAt j) allUnnamed) (b .1)) t)))
 
   edge-tests : (i j : ℕ) → edgeAt s rq ms i j ≡ true → (holds ws i ≡ true) × (holds ws j ≡ true) × (tests (moduleAt s i) (nameAt i) (nameAt j) ≡ true)
   unfolding edgeAt
   edge-tests i j e =
       let x : Bool = reads ms rq (nameAt i) (nameAt j) in
-      let a : i < length s = ltb-true i (length s) (and-l (ltb i (length s)) (ltb j (length s) && x) e) in
-      let r : ltb j (length s) && x ≡ true = and-r (ltb i (length s)) (ltb j (length s) && x) e in
-      let b : j < length s = ltb-true j (length s) (and-l (ltb j (length s)) x r) in
-      let c = source-of i (nameAt j) a (and-r (ltb j (length s)) x r) in
+      let a : i < length s = ltb-true i (length s) (and-left (ltb i (length s)) (ltb j (length s) && x) e) in
+      let r : ltb j (length s) && x ≡ true = and-right (ltb i (length s)) (ltb j (length s) && x) e in
+      let b : j < length s = ltb-true j (length s) (and-left (ltb j (length s)) x r) in
+      let c = source-of i (nameAt j) a (and-right (ltb j (length s)) x r) in
       let t : Bool = tests (moduleAt s i) (nameAt i) (nameAt j) in
-      let o : hasModule ms (nameAt j) || sameBytes (nameAt j) allUnnamed ≡ true = and-l (hasModule ms (nameAt j) || sameBytes (nameAt j) allUnnamed) t (c .1) in (
+      let o : hasModule ms (nameAt j) || sameBytes (nameAt j) allUnnamed ≡ true = and-left (hasModule ms (nameAt j) || sameBytes (nameAt j) allUnnamed) t (c .1) in (
         c .0,
-        or-e (hasModule ms (nameAt j)) (sameBytes (nameAt j) allUnnamed) o (λ k. member-in s d ws ms h j b k) (λ k. absurd (no-module j b (same-eq (nameAt j) allUnnamed k))),
-        and-r (hasModule ms (nameAt j) || sameBytes (nameAt j) allUnnamed) t (c .1),
+        or-cases (hasModule ms (nameAt j)) (sameBytes (nameAt j) allUnnamed) o (λ k. member-in s d ws ms h j b k) (λ k. absurd (no-module j b (same-eq (nameAt j) allUnnamed k))),
+        and-right (hasModule ms (nameAt j) || sameBytes (nameAt j) allUnnamed) t (c .1),
       )
 
   -- two members have one name just if they are at one position
@@ -127,55 +128,55 @@ module _ (s : List Descriptor) (d : distinct (names s) ≡ true) (free : memName
       row-out e = by (holds ws i) (λ a. reading a (own i a)) (λ a. true≠false e (other i a j))
         where
           reading : holds ws i ≡ true → MemberReads (names s) ws g m i (λ x. edge rows i x) → edgeAt s rq ms i j ≡ true
-          reading a r = or-e (holds (r .reached) j) (m .isAutomatic && othersAt ws i j) (sym (r .all j) ∙ e)
+          reading a r = or-cases (holds (r .reached) j) (m .isAutomatic && othersAt ws i j) (sym (r .all j) ∙ e)
               (λ k. let o = reached-out s d ws ms h g eg i (r .direct) (r .reached) (r .direct-is) (r .reached-is) j k in
               edge-true i j a (o .0) (⊎-elim
-              (λ q. or-l inDirect (inImplied || (inReads || inAll)) (memName-in q))
-              (λ q. or-r inDirect (inImplied || (inReads || inAll)) (or-l inImplied (inReads || inAll) (memName-in q))) (o .1)))
-              (λ k. let c : holds ws j && not (eqb j i) ≡ true = and-r (m .isAutomatic) (othersAt ws i j) k in
-              let b : holds ws j ≡ true = and-l (holds ws j) (not (eqb j i)) c in
-              edge-true i j a b (or-r inDirect (inImplied || (inReads || inAll)) (or-r inImplied (inReads || inAll) (or-r inReads inAll
-              (and-i (and-l (m .isAutomatic) (othersAt ws i j) k) (and-i (member-out s d ws ms h j b .1) (sym (same-position i j a b) ∙ and-r (holds ws j) (not (eqb j i)) c)))))))
+              (λ q. or-left inDirect (inImplied || (inReads || inAll)) (memName-in q))
+              (λ q. or-right inDirect (inImplied || (inReads || inAll)) (or-left inImplied (inReads || inAll) (memName-in q))) (o .1)))
+              (λ k. let c : holds ws j && not (eqb j i) ≡ true = and-right (m .isAutomatic) (othersAt ws i j) k in
+              let b : holds ws j ≡ true = and-left (holds ws j) (not (eqb j i)) c in
+              edge-true i j a b (or-right inDirect (inImplied || (inReads || inAll)) (or-right inImplied (inReads || inAll) (or-right inReads inAll
+              (and-both (and-left (m .isAutomatic) (othersAt ws i j) k) (and-both (member-out s d ws ms h j b .1) (sym (same-position i j a b) ∙ and-right (holds ws j) (not (eqb j i)) c)))))))
 
       reads-out : readAt (names s) ws (rq .addReads) i j ≡ true → edgeAt s rq ms i j ≡ true
       unfolding readAt
       reads-out e =
           let a = any-out (λ (x : Read). isNamed (names s) ws (x .source) i && isNamed (names s) ws (x .target) j) (rq .addReads) e in
-          let x = named-out s d ws ms h (a .0 .source) i (and-l (isNamed (names s) ws (a .0 .source) i) (isNamed (names s) ws (a .0 .target) j) (a .2)) in
-          let y = named-out s d ws ms h (a .0 .target) j (and-r (isNamed (names s) ws (a .0 .source) i) (isNamed (names s) ws (a .0 .target) j) (a .2)) in
-          edge-true i j (x .0) (y .0) (or-r inDirect (inImplied || (inReads || inAll)) (or-r inImplied (inReads || inAll)
-          (or-l inReads inAll (read-in (nameAt i) (nameAt j) (a .1) (sym (x .1)) (sym (y .1))))))
+          let x = named-out s d ws ms h (a .0 .source) i (and-left (isNamed (names s) ws (a .0 .source) i) (isNamed (names s) ws (a .0 .target) j) (a .2)) in
+          let y = named-out s d ws ms h (a .0 .target) j (and-right (isNamed (names s) ws (a .0 .source) i) (isNamed (names s) ws (a .0 .target) j) (a .2)) in
+          edge-true i j (x .0) (y .0) (or-right inDirect (inImplied || (inReads || inAll)) (or-right inImplied (inReads || inAll)
+          (or-left inReads inAll (read-in (nameAt i) (nameAt j) (a .1) (sym (x .1)) (sym (y .1))))))
 
       reads-in : holds ws i ≡ true → holds ws j ≡ true → inReads ≡ true → readAt (names s) ws (rq .addReads) i j ≡ true
       unfolding readAt
       reads-in e f k =
           let a = read-out (rq .addReads) (nameAt i) (nameAt j) k in
           any-in (λ (x : Read). isNamed (names s) ws (x .source) i && isNamed (names s) ws (x .target) j) (a .1)
-          (and-i (named-in s d ws ms h (a .0 .source) i e (sym (a .2))) (named-in s d ws ms h (a .0 .target) j f (sym (a .3))))
+          (and-both (named-in s d ws ms h (a .0 .source) i e (sym (a .2))) (named-in s d ws ms h (a .0 .target) j f (sym (a .3))))
 
       pub edge-is : edge after i j ≡ edgeAt s rq ms i j
       unfolding othersAt
       edge-is = each-way (edge after i j) (edgeAt s rq ms i j)
-          (λ e. or-e (edge rows i j) (readAt (names s) ws (rq .addReads) i j) (sym (more i j) ∙ e) row-out reads-out)
+          (λ e. or-cases (edge rows i j) (readAt (names s) ws (rq .addReads) i j) (sym (more i j) ∙ e) row-out reads-out)
           (λ e. let t = edge-tests i j e in more i j ∙ back (t .0) (t .1) (own i (t .0)) (t .2))
         where
           back : holds ws i ≡ true → holds ws j ≡ true → MemberReads (names s) ws g m i (λ x. edge rows i x) → inDirect || (inImplied || (inReads || inAll)) ≡ true
               → edge rows i j || readAt (names s) ws (rq .addReads) i j ≡ true
           back a b r t =
               let row : holds (r .reached) j || (m .isAutomatic && othersAt ws i j) ≡ true → edge rows i j || readAt (names s) ws (rq .addReads) i j ≡ true
-              = λ k. or-l (edge rows i j) (readAt (names s) ws (rq .addReads) i j) (r .all j ∙ k) in
-              or-e inDirect (inImplied || (inReads || inAll)) t
-              (λ k. row (or-l (holds (r .reached) j) (m .isAutomatic && othersAt ws i j)
+              = λ k. or-left (edge rows i j) (readAt (names s) ws (rq .addReads) i j) (r .all j ∙ k) in
+              or-cases inDirect (inImplied || (inReads || inAll)) t
+              (λ k. row (or-left (holds (r .reached) j) (m .isAutomatic && othersAt ws i j)
               (reached-direct s d ws ms h g eg i (r .direct) (r .reached) (r .direct-is) (r .reached-is) j b (memName-out (nameAt j) (directReads m) k))))
-              (λ u. or-e inImplied (inReads || inAll) u
-              (λ k. row (or-l (holds (r .reached) j) (m .isAutomatic && othersAt ws i j)
+              (λ u. or-cases inImplied (inReads || inAll) u
+              (λ k. row (or-left (holds (r .reached) j) (m .isAutomatic && othersAt ws i j)
               (reached-implied s d ws ms h g eg i (r .direct) (r .reached) (r .direct-is) (r .reached-is) j b (memName-out (nameAt j) (impliedReads ms m) k))))
-              (λ v. or-e inReads inAll v
-              (λ k. or-r (edge rows i j) (readAt (names s) ws (rq .addReads) i j) (reads-in a b k))
-              (λ k. let q = and-r (m .isAutomatic) (hasModule ms (nameAt j) && not (sameBytes (nameAt i) (nameAt j))) k in
-              row (or-r (holds (r .reached) j) (m .isAutomatic && othersAt ws i j)
-              (and-i (and-l (m .isAutomatic) (hasModule ms (nameAt j) && not (sameBytes (nameAt i) (nameAt j))) k)
-              (and-i b (same-position i j a b ∙ and-r (hasModule ms (nameAt j)) (not (sameBytes (nameAt i) (nameAt j))) q)))))))
+              (λ v. or-cases inReads inAll v
+              (λ k. or-right (edge rows i j) (readAt (names s) ws (rq .addReads) i j) (reads-in a b k))
+              (λ k. let q = and-right (m .isAutomatic) (hasModule ms (nameAt j) && not (sameBytes (nameAt i) (nameAt j))) k in
+              row (or-right (holds (r .reached) j) (m .isAutomatic && othersAt ws i j)
+              (and-both (and-left (m .isAutomatic) (hasModule ms (nameAt j) && not (sameBytes (nameAt i) (nameAt j))) k)
+              (and-both b (same-position i j a b ∙ and-right (hasModule ms (nameAt j)) (not (sameBytes (nameAt i) (nameAt j))) q)))))))
 
   -- ---- ALL-UNNAMED, which no module requires
 
@@ -214,22 +215,22 @@ module _ (s : List Descriptor) (d : distinct (names s) ≡ true) (free : memName
     unfolding unnamedAt unnamedIn
     unnamed-is out eo k = each-way (holds out k) (unnamedAt s rq ms k)
         (λ e. let a = any-out (λ (x : Read). isNamed (names s) ws (x .source) k && sameBytes (x .target) allUnnamed) (rq .addReads) (sym (eo k) ∙ e) in
-        let x = named-out s d ws ms h (a .0 .source) k (and-l (isNamed (names s) ws (a .0 .source) k) (sameBytes (a .0 .target) allUnnamed) (a .2)) in
-        let y : a .0 .target ≡ allUnnamed = same-eq (a .0 .target) allUnnamed (and-r (isNamed (names s) ws (a .0 .source) k) (sameBytes (a .0 .target) allUnnamed) (a .2)) in
-        and-i (lt-ltb k (length s) (member-out s d ws ms h k (x .0) .0))
-        (from-source k allUnnamed (x .0) (and-i (or-r (hasModule ms allUnnamed) (sameBytes allUnnamed allUnnamed) (same-refl allUnnamed))
-        (or-r direct (implied || (inReads || all)) (or-r implied (inReads || all) (or-l inReads all (read-in (nameAt k) allUnnamed (a .1) (sym (x .1)) y)))))))
-        (λ e. let l : k < length s = ltb-true k (length s) (and-l (ltb k (length s)) (reads ms rq (nameAt k) allUnnamed) e) in
-        let c = source-of k allUnnamed l (and-r (ltb k (length s)) (reads ms rq (nameAt k) allUnnamed) e) in
-        eo k ∙ or-e direct (implied || (inReads || all)) (and-r (hasModule ms allUnnamed || sameBytes allUnnamed allUnnamed) (tests (moduleAt s k) (nameAt k) allUnnamed) (c .1))
+        let x = named-out s d ws ms h (a .0 .source) k (and-left (isNamed (names s) ws (a .0 .source) k) (sameBytes (a .0 .target) allUnnamed) (a .2)) in
+        let y : a .0 .target ≡ allUnnamed = same-eq (a .0 .target) allUnnamed (and-right (isNamed (names s) ws (a .0 .source) k) (sameBytes (a .0 .target) allUnnamed) (a .2)) in
+        and-both (lt-ltb k (length s) (member-out s d ws ms h k (x .0) .0))
+        (from-source k allUnnamed (x .0) (and-both (or-right (hasModule ms allUnnamed) (sameBytes allUnnamed allUnnamed) (same-refl allUnnamed))
+        (or-right direct (implied || (inReads || all)) (or-right implied (inReads || all) (or-left inReads all (read-in (nameAt k) allUnnamed (a .1) (sym (x .1)) y)))))))
+        (λ e. let l : k < length s = ltb-true k (length s) (and-left (ltb k (length s)) (reads ms rq (nameAt k) allUnnamed) e) in
+        let c = source-of k allUnnamed l (and-right (ltb k (length s)) (reads ms rq (nameAt k) allUnnamed) e) in
+        eo k ∙ or-cases direct (implied || (inReads || all)) (and-right (hasModule ms allUnnamed || sameBytes allUnnamed allUnnamed) (tests (moduleAt s k) (nameAt k) allUnnamed) (c .1))
         (λ q. absurd (not-direct k (c .0) (memName-out allUnnamed (directReads (moduleAt s k)) q)))
-        (λ u. or-e implied (inReads || all) u
+        (λ u. or-cases implied (inReads || all) u
         (λ q. absurd (not-implied (moduleAt s k) (memName-out allUnnamed (impliedReads ms (moduleAt s k)) q)))
-        (λ v. or-e inReads all v
+        (λ v. or-cases inReads all v
         (λ q. let a = read-out (rq .addReads) (nameAt k) allUnnamed q in
         any-in (λ (x : Read). isNamed (names s) ws (x .source) k && sameBytes (x .target) allUnnamed) (a .1)
-        (and-i (named-in s d ws ms h (a .0 .source) k (c .0) (sym (a .2))) (→same (sym (a .3)))))
-        (λ q. true≠false (and-l (hasModule ms allUnnamed) (not (sameBytes (nameAt k) allUnnamed)) (and-r (moduleAt s k .isAutomatic) (hasModule ms allUnnamed && not (sameBytes (nameAt k) allUnnamed)) q)) no-member))))
+        (and-both (named-in s d ws ms h (a .0 .source) k (c .0) (sym (a .2))) (→same (sym (a .3)))))
+        (λ q. true≠false (and-left (hasModule ms allUnnamed) (not (sameBytes (nameAt k) allUnnamed)) (and-right (moduleAt s k .isAutomatic) (hasModule ms allUnnamed && not (sameBytes (nameAt k) allUnnamed)) q)) no-member))))
       where
         direct : Bool
         direct = memName allUnnamed (directReads (moduleAt s k))
@@ -258,7 +259,7 @@ module _ (s : List ℕ) (n : ℕ) (t : List ℕ) (e : checkSet s ≡ record { an
       let x = map-out requirementOf (bodies Kind.Requires (b .0)) k in
       let g = good-requires s n t e (b .0) (b .1) (x .0) (x .1) in
       let f : sameBytes (nameOf (drop 2 (x .0))) allUnnamed ≡ false
-      = not-t (sameBytes (nameOf (drop 2 (x .0))) allUnnamed) (and-l (not (sameBytes (nameOf (drop 2 (x .0))) allUnnamed)) (isNameVersion (drop 2 (x .0))) g) in
+      = not-true (sameBytes (nameOf (drop 2 (x .0))) allUnnamed) (and-left (not (sameBytes (nameOf (drop 2 (x .0))) allUnnamed)) (isNameVersion (drop 2 (x .0))) g) in
       let y : nameOf (drop 2 (x .0)) ≡ allUnnamed = sym (ap (λ (z : Requirement). z .name) (x .2)) ∙ q in
       true≠false (subst (λ (z : Name). sameBytes z allUnnamed ≡ true) (sym y) (same-refl allUnnamed)) f
 

@@ -9,7 +9,7 @@ use mathlib.Core.List.{List, [], _∷_, map, flatMap, List·Memᴰ·head, List·
 use mathlib.Core.Logic.{_⊎_, inl, inr, ⊎-elim}
 use lib.Dec.{ltb}
 use lib.ListN.{length}
-use borrow.Author.Tests.{eq-eqb, eqb-true, ltb-true, lt-ltb}
+use borrow.Author.Tests.{eq-eqb, eqb-true, ltb-true, lt-ltb, not-true}
 use Rattle.records.specs.Bytes.{sameBytes}
 use Rattle.records.specs.Name.{javaBase}
 use Rattle.records.specs.Descriptor.{Requirement, Descriptor}
@@ -17,6 +17,7 @@ use Rattle.records.specs.Set.{distinct}
 use Rattle.records.specs.Finder.{findName, pickFound}
 use Rattle.records.specs.declared.finder.Found.{Found}
 use Rattle.records.specs.declared.finder.Found.the-variants.{At, Nothing}
+use Rattle.records.proofs.Logic.{and-both, and-left, and-right, by, or-cases, or-left, or-right, true≠false}
 use Rattle.resolution.specs.Lists.{Name, Mem, keep}
 use Rattle.resolution.specs.Resolution.{names, find, hasModule, indexOf}
 use Rattle.resolution.specs.Reads.{directReads, transitiveNames, transitiveOf, requiredNames, impliedReads, reads}
@@ -28,7 +29,7 @@ use Rattle.resolution.specs.Readability.{memberOf, isAt, isNamed, isRequ
 use Rattle.resolution.proofs.Closure.{closure-holds, closure-closed, closure-least}
 use Rattle.resolution.proofs.Edges.{transitive-in}
 use Rattle.resolution.proofs.Find.{find-mem, has-find, has-some, unique-of}
-use Rattle.resolution.proofs.Lists.{and-i, and-l, and-r, any-in, any-out, by, flat-in, flat-out, keep-in, keep-out, map-in, map-out, not-t, or-e, or-l, or-r, true≠false}
+use Rattle.resolution.proofs.Lists.{any-in, any-out, flat-in, flat-out, keep-in, keep-out, map-in, map-out}
 use Rattle.resolution.proofs.Positions.{index-in, find-at, find-name, located, at-mem, index-at}
 
 some-same : {A : Type 0} (o : Option A) (a b : A) → o ≡ some a → o ≡ some b → a ≡ b
@@ -50,11 +51,11 @@ module _ (s : List Descriptor) (d : distinct (names s) ≡ true) (ws : List ℕ)
   unfolding memberAt
   member-out j e =
       let m : ltb j (length s) && hasModule ms (nameOf j) ≡ true = sym (h .each j) ∙ e in
-      (ltb-true j (length s) (and-l (ltb j (length s)) (hasModule ms (nameOf j)) m), and-r (ltb j (length s)) (hasModule ms (nameOf j)) m)
+      (ltb-true j (length s) (and-left (ltb j (length s)) (hasModule ms (nameOf j)) m), and-right (ltb j (length s)) (hasModule ms (nameOf j)) m)
 
   pub member-in : (j : ℕ) → j < length s → hasModule ms (nameOf j) ≡ true → holds ws j ≡ true
   unfolding memberAt
-  member-in j l e = h .each j ∙ and-i (lt-ltb j (length s) l) e
+  member-in j l e = h .each j ∙ and-both (lt-ltb j (length s) l) e
 
   own : (j : ℕ) → j < length s → find (nameOf j) s ≡ some (moduleAt s j)
   own j l = unique-of s d (moduleAt s j) (at-mem s j l)
@@ -111,29 +112,29 @@ module _ (s : List Descriptor) (d : distinct (names s) ≡ true) (ws : List ℕ)
   unfolding requiredAt isRequired
   required-out only rs j e =
       let a = any-out (λ (r : Requirement). isRequired (names s) ws only r j) rs e in
-      let n = named-out (a .0 .name) j (and-r (not only || a .0 .transitive) (isNamed (names s) ws (a .0 .name) j) (a .2)) in
-      (a .0, a .1, and-l (not only || a .0 .transitive) (isNamed (names s) ws (a .0 .name) j) (a .2), n .0, n .1)
+      let n = named-out (a .0 .name) j (and-right (not only || a .0 .transitive) (isNamed (names s) ws (a .0 .name) j) (a .2)) in
+      (a .0, a .1, and-left (not only || a .0 .transitive) (isNamed (names s) ws (a .0 .name) j) (a .2), n .0, n .1)
 
   required-in : (only : Bool) (rs : List Requirement) (j : ℕ) (r : Requirement) → Mem r rs → not only || r .transitive ≡ true → holds ws j ≡ true → nameOf j ≡ r .name
       → requiredAt (names s) ws only rs j ≡ true
   unfolding requiredAt isRequired
-  required-in only rs j r m t e q = any-in (λ (x : Requirement). isRequired (names s) ws only x j) m (and-i t (named-in (r .name) j e q))
+  required-in only rs j r m t e q = any-in (λ (x : Requirement). isRequired (names s) ws only x j) m (and-both t (named-in (r .name) j e q))
 
   direct-out : (m : Descriptor) (j : ℕ) → directAt (names s) ws m j ≡ true → (holds ws j ≡ true) × Mem (nameOf j) (directReads m)
   unfolding directAt directReads
-  direct-out m j e = or-e (requiredAt (names s) ws false (m .requires) j) (not (sameBytes (m .name) javaBase) && isNamed (names s) ws javaBase j) e
+  direct-out m j e = or-cases (requiredAt (names s) ws false (m .requires) j) (not (sameBytes (m .name) javaBase) && isNamed (names s) ws javaBase j) e
       (λ k. let r = required-out false (m .requires) j k in
       (r .3, Memᴰ·append-right (cond (sameBytes (m .name) javaBase) [] (javaBase ∷ [])) (Memᴰ·cast (r .4) (map-in (λ (x : Requirement). x .name) (r .1)))))
-      (λ k. let n = named-out javaBase j (and-r (not (sameBytes (m .name) javaBase)) (isNamed (names s) ws javaBase j) k) in
-      let f : sameBytes (m .name) javaBase ≡ false = not-t (sameBytes (m .name) javaBase) (and-l (not (sameBytes (m .name) javaBase)) (isNamed (names s) ws javaBase j) k) in
+      (λ k. let n = named-out javaBase j (and-right (not (sameBytes (m .name) javaBase)) (isNamed (names s) ws javaBase j) k) in
+      let f : sameBytes (m .name) javaBase ≡ false = not-true (sameBytes (m .name) javaBase) (and-left (not (sameBytes (m .name) javaBase)) (isNamed (names s) ws javaBase j) k) in
       (n .0, Memᴰ·append-left (map (λ (x : Requirement). x .name) (m .requires)) (subst (λ (b : Bool). Mem (nameOf j) (cond b [] (javaBase ∷ []))) (sym f) (List·Memᴰ·head (n .1)))))
 
   direct-in : (m : Descriptor) (j : ℕ) → holds ws j ≡ true → Mem (nameOf j) (directReads m) → directAt (names s) ws m j ≡ true
   unfolding directAt directReads
   direct-in m j e k = ⊎-elim
-      (λ (p : Mem (nameOf j) (cond (sameBytes (m .name) javaBase) [] (javaBase ∷ []))). or-r (requiredAt (names s) ws false (m .requires) j) (not (sameBytes (m .name) javaBase) && isNamed (names s) ws javaBase j) (base (sameBytes (m .name) javaBase) p))
+      (λ (p : Mem (nameOf j) (cond (sameBytes (m .name) javaBase) [] (javaBase ∷ []))). or-right (requiredAt (names s) ws false (m .requires) j) (not (sameBytes (m .name) javaBase) && isNamed (names s) ws javaBase j) (base (sameBytes (m .name) javaBase) p))
       (λ p. let r = map-out (λ (x : Requirement). x .name) (m .requires) p in
-      or-l (requiredAt (names s) ws false (m .requires) j) (not (sameBytes (m .name) javaBase) && isNamed (names s) ws javaBase j) (required-in false (m .requires) j (r .0) (r .1) refl e (r .2)))
+      or-left (requiredAt (names s) ws false (m .requires) j) (not (sameBytes (m .name) javaBase) && isNamed (names s) ws javaBase j) (required-in false (m .requires) j (r .0) (r .1) refl e (r .2)))
       (List·Memᴰ·append-cases (cond (sameBytes (m .name) javaBase) [] (javaBase ∷ [])) k)
     where
       base : (b : Bool) → Mem (nameOf j) (cond b [] (javaBase ∷ [])) → not b && isNamed (names s) ws javaBase j ≡ true
@@ -163,8 +164,8 @@ module _ (s : List Descriptor) (d : distinct (names s) ≡ true) (ws : List ℕ)
     unfolding transitiveAt
     edge-out i j e =
         let k : holds ws i && requiredAt (names s) ws true (moduleAt s i .requires) j ≡ true = sym (eg i j) ∙ e in
-        let hi : holds ws i ≡ true = and-l (holds ws i) (requiredAt (names s) ws true (moduleAt s i .requires) j) k in
-        let r = required-out true (moduleAt s i .requires) j (and-r (holds ws i) (requiredAt (names s) ws true (moduleAt s i .requires) j) k) in (
+        let hi : holds ws i ≡ true = and-left (holds ws i) (requiredAt (names s) ws true (moduleAt s i .requires) j) k in
+        let r = required-out true (moduleAt s i .requires) j (and-right (holds ws i) (requiredAt (names s) ws true (moduleAt s i .requires) j) k) in (
           r .3,
           subst (λ (l : List Name). Mem (nameOf j) l) (sym (own-names i hi))
               (Memᴰ·cast (r .4) (map-in (λ (x : Requirement). x .name) (keep-in (λ (x : Requirement). x .transitive) (r .1) (r .2)))),
@@ -175,7 +176,7 @@ module _ (s : List Descriptor) (d : distinct (names s) ≡ true) (ws : List ℕ)
     edge-in i j hi hj m =
         let r = map-out (λ (x : Requirement). x .name) (keep (λ (x : Requirement). x .transitive) (moduleAt s i .requires)) (subst (λ (l : List Name). Mem (nameOf j) l) (own-names i hi) m) in
         let k = keep-out (λ (x : Requirement). x .transitive) (moduleAt s i .requires) (r .1) in
-        eg i j ∙ and-i hi (required-in true (moduleAt s i .requires) j (r .0) (k .0) (k .1) hj (r .2))
+        eg i j ∙ and-both hi (required-in true (moduleAt s i .requires) j (r .0) (k .0) (k .1) hj (r .2))
 
     -- ---- what is reached
 

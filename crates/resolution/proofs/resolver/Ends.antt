@@ -1,7 +1,7 @@
 -- A position comes to the end of the array, which has room for it.
 use Prim.Native.Nat.{ℕ, suc, _+_, _<_}
 use mathlib.Core.Path.{_≡_, refl, sym, _∙_, ap}
-use mathlib.Core.Bool.{Bool, true, false, not, _||_, or-false}
+use mathlib.Core.Bool.{Bool, true, false, not, _||_, or-false, or-true, or-assoc}
 use mathlib.Core.List.{List, [], _∷_, _++_}
 use native.Mathlib.Omega.{arith}
 use lib.Dec.{eqb}
@@ -9,6 +9,7 @@ use lib.ListN.{length, getD, take, set, length-set}
 use lib.Seq.{take-suc-set, take-set-le, getD-set-same, getD-set-other}
 use borrow.Author.Tests.{eq-eqb, eqb-true, eqb-false}
 use Rattle.records.specs.declared.error.ModuleError.{ModuleError}
+use Rattle.records.proofs.Logic.{or-right}
 use Rattle.resolution.specs.Lists.{any}
 use Rattle.resolution.specs.Row.{one, countBelow}
 use Rattle.resolution.specs.Resolver.{lineAt, isOneOf, queuedAt, queuedOn, queued, Ready, Within, Moved}
@@ -17,7 +18,6 @@ use Rattle.resolution.specs.declared.resolver.Halt.the-variants as Halt
 use Rattle.resolution.specs.declared.resolver.Queue.{Queue}
 use Rattle.resolution.specs.declared.resolver.Wanted.{Wanted}
 use Rattle.resolution.specs.declared.resolver.Wanted.the-variants.{Pass, Add, Stop, Refuse}
-use Rattle.resolution.proofs.Lists.{or-r}
 use Rattle.resolution.proofs.row.Counts.{count-strict}
 
 -- ---- one position more
@@ -25,19 +25,11 @@ use Rattle.resolution.proofs.row.Counts.{count-strict}
 pub one-of-end : (k i : ℕ) (ps : List ℕ) → isOneOf k (ps ++ (i ∷ [])) ≡ (isOneOf k ps || eqb k i)
 unfolding isOneOf any
 one-of-end k i [] = or-false (eqb k i)
-one-of-end k i (p ∷ ps) = rw (one-of-end k i ps) (assoc (eqb k p) (any (eqb k) ps) (eqb k i))
-  where
-    assoc : (a b c : Bool) → (a || (b || c)) ≡ ((a || b) || c)
-    assoc true b c = refl
-    assoc false b c = refl
+one-of-end k i (p ∷ ps) = rw (one-of-end k i ps) (sym (or-assoc (eqb k p) (any (eqb k) ps) (eqb k i)))
 
 left-out : (a b : Bool) → not (a || b) ≡ true → not a ≡ true
 left-out true b e = e
 left-out false b e = refl
-
-last-out : (a : Bool) → not (a || true) ≡ false
-last-out true = refl
-last-out false = refl
 
 -- those that may come are fewer by one
 module _ (count i : ℕ) (ps : List ℕ) (l : i < count) (new : isOneOf i ps ≡ false) where
@@ -45,7 +37,7 @@ module _ (count i : ℕ) (ps : List ℕ) (l : i < count) (new : isOneOf i ps ≡
   fewer =
       count-strict (λ k. not (isOneOf k (ps ++ (i ∷ [])))) (λ k. not (isOneOf k ps)) count i l
       (λ k b h. left-out (isOneOf k ps) (eqb k i) (rw (one-of-end k i ps) at h))
-      (rw (one-of-end i i ps, eq-eqb i i refl) (last-out (isOneOf i ps)))
+      (rw (one-of-end i i ps, eq-eqb i i refl, or-true (isOneOf i ps)))
       (rw new)
 
 -- ---- the marks
@@ -89,7 +81,7 @@ module _ (count : ℕ) (order : List ℕ) (q : Queue) (h : Ready count order q) 
         go : (c : Bool) → eqb j i ≡ c → getD (set (set order (q .tail) i) (256 + i) 1) (256 + j) 0 ≡ one (isOneOf j (take (q .tail) order) || c)
         go true k =
             rw (eqb-true j i k)
-            (getD-set-same (set order (q .tail) i) (256 + i) 1 0 push-mark ∙ sym (ap one (or-r (isOneOf i (take (q .tail) order)) true refl)))
+            (getD-set-same (set order (q .tail) i) (256 + i) 1 0 push-mark ∙ sym (ap one (or-right (isOneOf i (take (q .tail) order)) true refl)))
         go false k =
             let n : j ≡ i → ⊥ = eqb-false j i k in
             getD-set-other (set order (q .tail) i) (256 + i) (256 + j) 1 0 (omega (arith, n))

@@ -1,7 +1,7 @@
 -- Round after round.
 use Prim.Native.Nat.{ℕ, zero, suc, _+_, _-_, _≤_, _<_}
 use mathlib.Core.Path.{_≡_, refl, sym, _∙_, ap, subst}
-use mathlib.Core.Bool.{Bool, true, false, not, _&&_}
+use mathlib.Core.Bool.{Bool, true, false, not, _&&_, and-false}
 use mathlib.Core.List.{List, [], _∷_, _++_}
 use native.Mathlib.Omega.{arith}
 use lib.Dec.{eqb}
@@ -10,7 +10,7 @@ use lib.Seq.{length-take-le, take-take}
 use borrow.Author.Tests.{eqb-true, eqb-false, eq-eqb}
 use Rattle.records.specs.Record.{records}
 use Rattle.records.specs.declared.error.Input.the-variants as Input
-use Rattle.records.proofs.Logic.{clash}
+use Rattle.records.proofs.Logic.{clash, true≠false}
 use Rattle.resolution.specs.Row.{one}
 use Rattle.resolution.specs.Resolver.{Inputs, inputsOf, startOf, blockOf, Line, lineAt, isOneOf, pickLine, Ready, Moved, splitAt, advancedAt, handledAt, handleAt, isOpen, goesOn, runAt, isProviderAt, provideAt, isDone, roundAt, roundsAt, isMetBefore}
 use Rattle.resolution.specs.Filter.{requiresIn, isRequired}
@@ -23,7 +23,6 @@ use Rattle.resolution.specs.declared.resolver.Halt.the-variants as Halt
 use Rattle.resolution.specs.declared.resolver.Phase.{Phase}
 use Rattle.resolution.specs.declared.resolver.Queue.{Queue}
 use Rattle.resolution.proofs.table.Laws.{tells-required}
-use Rattle.resolution.proofs.Lists.{true≠false}
 use Rattle.resolution.proofs.resolver.Turns.{append-nil, Grown, Longer, grown-same, grown-then, longer-records, front-same, tail-grows, tail-few, tail-long}
 use Rattle.resolution.proofs.resolver.Runs.{not-back, run-ended}
 use Rattle.resolution.proofs.providers.Laws.{one-grown, provider-none, longer-provided, halt-provided, provided-in, provide-same}
@@ -167,12 +166,8 @@ module _ (set request starts old : List ℕ) (phase : Phase) where
   unfolding roundsAt
   stays zero l e = refl
   stays (suc f) l e =
-      let k : (isDone (l .halt) && not (noneNew l)) ≡ false = rw e (never (isDone (l .halt))) in
+      let k : (isDone (l .halt) && not (noneNew l)) ≡ false = rw e (and-false (isDone (l .halt))) in
       ap (λ (b : Bool). pickLine b (roundsAt w f (roundAt w l)) l) k
-    where
-      never : (b : Bool) → (b && false) ≡ false
-      never true = refl
-      never false = refl
 
   -- and the round changes nothing
   idle : (l : Line) → l .head ≤ length (l .order) → noneNew l ≡ true → roundAt w l ≡ l
@@ -183,13 +178,9 @@ module _ (set request starts old : List ℕ) (phase : Phase) where
       let z : length (p .grown .more) ≡ 0 = omega (arith, b, n, ap length (p .grown .order), length-append (l .order) (p .grown .more)) in
       let o : provideAt w l .order ≡ l .order = p .grown .order ∙ ap (λ (r : List ℕ). l .order ++ r) (none (p .grown .more) z) ∙ append-nil (l .order) in
       let same : provideAt w l ≡ l = line-same (provideAt w l) l o (p .head) (halt-provided w (take (l .head) (l .order)) (w .count) 0 l) in
-      let ends : goesOn l ≡ false = rw (eq-eqb (l .head) (length (l .order)) (n ∙ ap length o)) (never (isOpen (l .halt))) in
+      let ends : goesOn l ≡ false = rw (eq-eqb (l .head) (length (l .order)) (n ∙ ap length o)) (and-false (isOpen (l .halt))) in
       ap (runAt w (suc (w .count) - l .head)) same ∙ run-ended w (suc (w .count) - l .head) l ends
     where
-      never : (b : Bool) → (b && false) ≡ false
-      never true = refl
-      never false = refl
-
       none : (r : List ℕ) → length r ≡ 0 → r ≡ []
       none [] k = refl
       none (x ∷ r) k = absurd (omega (arith, k))

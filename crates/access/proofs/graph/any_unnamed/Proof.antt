@@ -1,6 +1,6 @@
 use borrow.Author.Needs.{needs}
 use Prim.Native.Nat.{_-_}
-use Rattle.access.proofs.graph.Laws.{NoneAt, any-laws}
+use Rattle.access.proofs.graph.Leads.{NoneAt, any-laws}
 use Rattle.access.proofs.graph.any_unnamed.Statement.{statement}
 use Rattle.access.proofs.graph.any_unnamed.Tie as tie
 

@@ -1,7 +1,7 @@
 use borrow.Author.Needs.{needs}
 use Rattle.resolution.specs.Row.{holds}
 use Prim.Native.Nat.{_-_}
-use Rattle.access.proofs.graph.Laws.{PassedAt, below-laws}
+use Rattle.access.proofs.graph.Rows.{PassedAt, below-laws}
 use Rattle.access.proofs.graph.below.Statement.{statement}
 use Rattle.access.proofs.graph.below.Tie as tie
 

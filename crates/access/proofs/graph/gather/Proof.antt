@@ -1,7 +1,7 @@
 use Rattle.resolution.specs.Row.{size}
 use Prim.Native.Nat.{_-_}
 use borrow.Author.Needs.{needs}
-use Rattle.access.proofs.graph.Laws.{GatherAt, gather-laws}
+use Rattle.access.proofs.graph.Leads.{GatherAt, gather-laws}
 use Rattle.access.proofs.graph.gather.Statement.{statement}
 use Rattle.access.proofs.graph.gather.Tie as tie
 

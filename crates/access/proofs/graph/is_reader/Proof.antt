@@ -1,4 +1,4 @@
-use Rattle.access.proofs.graph.Laws.{reader-laws}
+use Rattle.access.proofs.graph.Rows.{reader-laws}
 use borrow.Author.Needs.{needs}
 use Rattle.access.proofs.graph.is_reader.Statement.{statement}
 use Rattle.access.proofs.graph.is_reader.Tie as tie

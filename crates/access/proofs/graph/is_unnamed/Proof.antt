@@ -1,4 +1,4 @@
-use Rattle.access.proofs.graph.Laws.{unnamed-laws}
+use Rattle.access.proofs.graph.Leads.{unnamed-laws}
 use borrow.Author.Needs.{needs}
 use Rattle.access.proofs.graph.is_unnamed.Statement.{statement}
 use Rattle.access.proofs.graph.is_unnamed.Tie as tie

@@ -1,4 +1,4 @@
-use Rattle.access.proofs.graph.Laws.{onward-is}
+use Rattle.access.proofs.graph.Leads.{onward-is}
 use borrow.Author.Needs.{needs}
 use Rattle.access.proofs.graph.onward.Statement.{statement}
 use Rattle.access.proofs.graph.onward.Tie as tie

@@ -1,7 +1,7 @@
 use borrow.Author.Needs.{needs}
 use Rattle.access.specs.GraphSteps.{readerAt}
 use Prim.Native.Nat.{_-_}
-use Rattle.access.proofs.graph.Laws.{PassedAt, readers-laws}
+use Rattle.access.proofs.graph.Rows.{PassedAt, readers-laws}
 use Rattle.access.proofs.graph.readers.Statement.{statement}
 use Rattle.access.proofs.graph.readers.Tie as tie
 

@@ -1,4 +1,4 @@
-use Rattle.access.proofs.graph.Laws.{readers-of-laws}
+use Rattle.access.proofs.graph.Answers.{readers-of-laws}
 use borrow.Author.Needs.{needs}
 use Rattle.access.proofs.graph.readers_of.Statement.{statement}
 use Rattle.access.proofs.graph.readers_of.Tie as tie

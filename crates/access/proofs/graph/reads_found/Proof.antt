@@ -1,4 +1,4 @@
-use Rattle.access.proofs.graph.Laws.{found-laws}
+use Rattle.access.proofs.graph.Rows.{found-laws}
 use borrow.Author.Needs.{needs}
 use Rattle.access.proofs.graph.reads_found.Statement.{statement}
 use Rattle.access.proofs.graph.reads_found.Tie as tie

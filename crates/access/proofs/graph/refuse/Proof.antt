@@ -1,5 +1,5 @@
 use borrow.Author.Needs.{needs}
-use Rattle.access.proofs.graph.Laws.{refuse-is}
+use Rattle.access.proofs.graph.Answers.{refuse-is}
 use Rattle.access.proofs.graph.refuse.Statement.{statement}
 use Rattle.access.proofs.graph.refuse.Tie as tie
 

@@ -1,4 +1,4 @@
-use Rattle.access.proofs.graph.Laws.{spread-laws}
+use Rattle.access.proofs.graph.Leads.{spread-laws}
 use borrow.Author.Needs.{needs}
 use Rattle.access.proofs.graph.spread.Statement.{statement}
 use Rattle.access.proofs.graph.spread.Tie as tie

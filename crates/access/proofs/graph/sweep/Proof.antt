@@ -1,6 +1,6 @@
 use borrow.Author.Needs.{needs}
 use Prim.Native.Nat.{_-_}
-use Rattle.access.proofs.graph.Laws.{SweepAt, sweep-laws}
+use Rattle.access.proofs.graph.Leads.{SweepAt, sweep-laws}
 use Rattle.access.proofs.graph.sweep.Statement.{statement}
 use Rattle.access.proofs.graph.sweep.Tie as tie
 

@@ -1,5 +1,5 @@
 use borrow.Author.Needs.{needs}
-use Rattle.access.proofs.graph.Laws.{tell-is}
+use Rattle.access.proofs.graph.Answers.{tell-is}
 use Rattle.access.proofs.graph.tell.Statement.{statement}
 use Rattle.access.proofs.graph.tell.Tie as tie
 

@@ -1,4 +1,4 @@
-use Rattle.access.proofs.graph.Laws.{transitive-laws}
+use Rattle.access.proofs.graph.Answers.{transitive-laws}
 use borrow.Author.Needs.{needs}
 use Rattle.access.proofs.graph.transitive_reads.Statement.{statement}
 use Rattle.access.proofs.graph.transitive_reads.Tie as tie

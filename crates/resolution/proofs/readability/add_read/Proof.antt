@@ -1,4 +1,4 @@
-use Rattle.resolution.proofs.readability.Laws.{add-one-laws}
+use Rattle.resolution.proofs.readability.Added.{add-one-laws}
 use borrow.Author.Needs.{needs}
 use Rattle.resolution.proofs.readability.add_read.Statement.{statement}
 use Rattle.resolution.proofs.readability.add_read.Tie as tie

@@ -2,7 +2,7 @@ use Prim.Native.Nat.{_-_}
 use lib.ListN.{length}
 use borrow.Author.Needs.{needs}
 use Rattle.resolution.specs.Readability.{tableNames}
-use Rattle.resolution.proofs.readability.Laws.{AddAt, add-laws}
+use Rattle.resolution.proofs.readability.Added.{AddAt, add-laws}
 use Rattle.resolution.proofs.readability.add_reads.Statement.{statement}
 use Rattle.resolution.proofs.readability.add_reads.Tie as tie
 

@@ -1,6 +1,6 @@
 use Prim.Native.Nat.{_-_}
 use borrow.Author.Needs.{needs}
-use Rattle.resolution.proofs.readability.Laws.{DirectAt, set-direct-laws}
+use Rattle.resolution.proofs.readability.Rows.{DirectAt, set-direct-laws}
 use Rattle.resolution.proofs.readability.set_direct.Statement.{statement}
 use Rattle.resolution.proofs.readability.set_direct.Tie as tie
 

@@ -1,4 +1,4 @@
-use Rattle.resolution.proofs.readability.Laws.{set-read-laws}
+use Rattle.resolution.proofs.readability.Added.{set-read-laws}
 use borrow.Author.Needs.{needs}
 use Rattle.resolution.proofs.readability.set_read.Statement.{statement}
 use Rattle.resolution.proofs.readability.set_read.Tie as tie

@@ -1,6 +1,6 @@
 use Prim.Native.Nat.{_-_}
 use borrow.Author.Needs.{needs}
-use Rattle.resolution.proofs.readability.Laws.{RowsAt, rows-laws}
+use Rattle.resolution.proofs.readability.Rows.{RowsAt, rows-laws}
 use Rattle.resolution.proofs.readability.set_reads.Statement.{statement}
 use Rattle.resolution.proofs.readability.set_reads.Tie as tie
 

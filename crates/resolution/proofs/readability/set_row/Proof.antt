@@ -1,4 +1,4 @@
-use Rattle.resolution.proofs.readability.Laws.{set-row-laws}
+use Rattle.resolution.proofs.readability.Rows.{set-row-laws}
 use borrow.Author.Needs.{needs}
 use Rattle.resolution.proofs.readability.set_row.Statement.{statement}
 use Rattle.resolution.proofs.readability.set_row.Tie as tie

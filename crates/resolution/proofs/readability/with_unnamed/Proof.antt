@@ -1,4 +1,4 @@
-use Rattle.resolution.proofs.readability.Laws.{unnamed-laws}
+use Rattle.resolution.proofs.readability.Added.{unnamed-laws}
 use borrow.Author.Needs.{needs}
 use Rattle.resolution.proofs.readability.with_unnamed.Statement.{statement}
 use Rattle.resolution.proofs.readability.with_unnamed.Tie as tie
