@@ -18,15 +18,19 @@ pub enum Pool {
     Fault(usize),
 }
 
-// The bytes of a constant with this tag, of a Utf8 those before its text; 0 where there is no such tag.
+// The bytes of a constant with this tag, of a Utf8 those before its text; 0 where there is no such tag. A digit for each tag, the first
+// at the end: a table would be made anew in each call.
 fn fixed_width(tag: usize) -> usize
     ensures { λ r. ⌜ r ≡ getD widths tag 0 ⌝ }
     ensures { λ r. ⌜ r < 256 ⌝ }
 {
-    byte(
-        b"\x00\x03\x00\x05\x05\x09\x09\x03\x03\x05\x05\x05\x05\x00\x00\x04\x03\x05\x05\x03\x03",
-        tag,
-    )
+    if tag < 16 {
+        return (0x4005_5553_3995_5030usize >> (tag * 4)) % 16;
+    }
+    if tag < 21 {
+        return (0x3_3553usize >> ((tag - 16) * 4)) % 16;
+    }
+    0
 }
 
 // The bytes that the constant at `at` takes, by its tag.

@@ -14,42 +14,9 @@ use Rattle.records.proofs.Logic.{clash, and-left, and-right}
 use Rattle.class_reader.specs.Pool.{widths, tagAt, widthAt, takesTwo, isDefined, isConstant, poolFrom, offsetsFrom}
 use Rattle.class_reader.specs.Table.{Filled}
 use Rattle.class_reader.specs.declared.pool.Pool.the-variants.{End, Fault}
+use Rattle.class_reader.proofs.pool.Widths.{tag-wide}
 
 -- ---- a constant takes three bytes or more, and one with two indices six or more
-
--- a test passes at each entry of a table, with the entry's index
-abbrev allFrom : (ℕ → ℕ → Bool) → ℕ → List ℕ → Bool
-allFrom q k [] = true
-allFrom q k (x ∷ l) = q k x && allFrom q (suc k) l
-
-all-at : (q : ℕ → ℕ → Bool) (k : ℕ) (l : List ℕ) → allFrom q k l ≡ true → (i : ℕ) → i < length l → q (k + i) (getD l i 0) ≡ true
-all-at q k [] e i h = absurd (omega arith)
-all-at q k (x ∷ l) e zero h = let s : k + 0 ≡ k = omega arith in rw s (and-left (q k x) (allFrom q (suc k) l) e)
-all-at q k (x ∷ l) e (suc i) h =
-    let s : k + suc i ≡ suc k + i = omega arith in
-    rw s (all-at q (suc k) l (and-right (q k x) (allFrom q (suc k) l) e) i (omega arith))
-
--- the least bytes of a constant with this tag
-abbrev least : ℕ → ℕ
-least k = 3 + cond (eqb k 5 || eqb k 6) 3 0
-
-abbrev wideEnough : ℕ → ℕ → Bool
-wideEnough k x = eqb x 0 || leb (least k) x
-
-tag-wide : (k : ℕ) → ltb 0 (getD widths k 0) ≡ true → least k ≤ getD widths k 0
-tag-wide k e = go (ltb k (length widths)) refl
-  where
-    some : (x : ℕ) → 0 < x → (eqb x 0 || leb (least k) x) ≡ true → least k ≤ x
-    some x p h = leb-true (least k) x (rw (ne-eqb x 0 (omega arith)) at h)
-
-    go : (b : Bool) → ltb k (length widths) ≡ b → least k ≤ getD widths k 0
-    go true eb =
-        let z : 0 + k ≡ k = omega arith in
-        let a : wideEnough k (getD widths k 0) ≡ true = rw z at (all-at wideEnough 0 widths refl k (ltb-true k (length widths) eb)) in
-        some (getD widths k 0) (ltb-true 0 (getD widths k 0) e) a
-    go false eb =
-        let d : getD widths k 0 ≡ 0 = List·getD-eq-default widths 0 (ltb-false k (length widths) eb) in
-        absurd (omega (arith, d, ltb-true 0 (getD widths k 0) e))
 
 module _ (f : List ℕ) (left at : ℕ) (e : isConstant f left at ≡ true) where
   pub constant-wide : 3 + cond (takesTwo f at) 3 0 ≤ widthAt f at
