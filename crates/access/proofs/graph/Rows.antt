@@ -13,7 +13,7 @@ use Rattle.resolution.specs.Row.{holds, Empty, Added}
 use Rattle.resolution.specs.Graph.{Successors}
 use Rattle.resolution.specs.Readability.{Holding}
 use Rattle.access.specs.Access.{edgeTo}
-use Rattle.access.specs.GraphSteps.{readerAt, readerBelow, heldBelow, at}
+use Rattle.access.specs.GraphSteps.{readerAt, readerBelow, heldBelow}
 
 -- ---- who reads what is found
 

@@ -17,7 +17,7 @@ use Rattle.class_reader.specs.Attribute.{moduleItems, packageItem, packa
 use Rattle.class_reader.specs.ClassFile.{sized}
 use Rattle.class_reader.specs.Measure.{adding, measureModule, Small}
 use Rattle.class_reader.specs.Output.{Room}
-use Rattle.class_reader.specs.Reader.{packageCount, Sized, Ordered, ItemsFitted, ItemsRead}
+use Rattle.class_reader.specs.Reader.{Sized, Ordered, ItemsFitted, ItemsRead}
 use Rattle.class_reader.specs.Walk.{Readable}
 use Rattle.class_reader.specs.declared.attribute.Seen.{Seen}
 use Rattle.class_reader.specs.declared.measure.Measured.{Measured}

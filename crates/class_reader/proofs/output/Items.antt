@@ -1,7 +1,7 @@
 -- No body of some of the records is too long where none of all is.
-use mathlib.Core.Path.{_≡_, refl, sym, _∙_}
+use mathlib.Core.Path.{_≡_, sym, _∙_}
 use mathlib.Core.List.{List, [], _∷_, _++_}
-use mathlib.Core.Bool.{Bool, true, false, _||_}
+use mathlib.Core.Bool.{false}
 use lib.ListN.{length}
 use lib.Dec.{ltb}
 use Rattle.records.proofs.Logic.{neither-left, neither-right}

@@ -1,14 +1,14 @@
 -- What each turn of the loop that fills the table of constants shows.
-use Prim.Native.Nat.{ℕ, zero, suc, _+_, _*_, _-_, _≤_, _<_}
+use Prim.Native.Nat.{ℕ, suc, _+_, _*_, _-_, _≤_, _<_}
 use mathlib.Core.Path.{_≡_, refl, sym, _∙_, ap}
 use mathlib.Core.List.{List, [], _∷_, _++_, append-assoc, append-nil}
 use mathlib.Core.Bool.{Bool, true, false, cond, _&&_, _||_, not}
 use native.Mathlib.Omega.{arith}
 use native.Mathlib.Numerals.{add-one}
-use lib.ListN.{length, getD, take, set, length-set, List·getD-eq-default}
+use lib.ListN.{length, getD, take, set, length-set}
 use lib.Seq.{take-suc, take-set-le, getD-set-same}
 use lib.Dec.{ltb, leb, eqb}
-use borrow.Author.Tests.{ltb-true, ltb-false, leb-true, not-true, not-false, ne-eqb}
+use borrow.Author.Tests.{leb-true, not-true, not-false}
 use Rattle.records.specs.Bytes.{u16At}
 use Rattle.records.proofs.Logic.{clash, and-left, and-right}
 use Rattle.class_reader.specs.Pool.{widths, tagAt, widthAt, takesTwo, isDefined, isConstant, poolFrom, offsetsFrom}

@@ -1,6 +1,6 @@
 -- Laws of the byte classes of specs/Automatic.antt: what each return of their tests shows, and which bytes a class leaves out.
 use Prim.Native.Nat.{ℕ, _≤_, _<_}
-use mathlib.Core.Path.{_≡_, refl}
+use mathlib.Core.Path.{_≡_}
 use mathlib.Core.Bool.{Bool, true, false, _&&_, _||_, or-false, or-true}
 use native.Mathlib.Omega.{arith}
 use lib.Dec.{leb, eqb}

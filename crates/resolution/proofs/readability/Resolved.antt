@@ -20,7 +20,7 @@ use Rattle.records.specs.declared.finder.Found.the-variants.{At, Nothing}
 use Rattle.records.proofs.Logic.{and-both, and-left, and-right, by, or-cases, or-left, or-right, true≠false}
 use Rattle.resolution.specs.Lists.{Name, Mem, keep}
 use Rattle.resolution.specs.Resolution.{names, find, hasModule, indexOf}
-use Rattle.resolution.specs.Reads.{directReads, transitiveNames, transitiveOf, requiredNames, impliedReads, reads}
+use Rattle.resolution.specs.Reads.{directReads, transitiveNames, transitiveOf, requiredNames, impliedReads}
 use Rattle.resolution.specs.Positions.{moduleAt}
 use Rattle.resolution.specs.Row.{holds}
 use Rattle.resolution.specs.Graph.{edge, Reach, step, then, ReachedFrom}

@@ -1,4 +1,4 @@
-use Prim.Native.Nat.{_≤_, _-_}
+use Prim.Native.Nat.{_-_}
 use borrow.Author.Needs.{needs}
 use Rattle.resolve.proofs.list_owners.Statement.{statement}
 use Rattle.resolve.proofs.list_owners.Tie as tie
