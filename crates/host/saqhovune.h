@@ -3,7 +3,7 @@
  * A slice is a pointer and a length. Every pointer is not null and is aligned, also that of a slice of length 0. What is written,
  * row and particulars included, overlaps no other argument.
  *
- * Stack, as measured on x86-64: 700 KiB for saqhovune_resolve, 320 KiB for saqhovune_from_class_file, 145 KiB for
+ * Stack, as measured on x86-64: 710 KiB for saqhovune_resolve, 320 KiB for saqhovune_from_class_file, 145 KiB for
  * saqhovune_automatic_from_jar_name, 40 KiB for every other function.
  *
  * Each function returns 0 for an answer, else the number of a refusal (document 01), and always writes all four words of

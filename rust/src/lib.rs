@@ -3,7 +3,7 @@
 //!
 //! A set and a request are byte strings of records ([`form`] writes them). Every call answers, or ends with a [`Refusal`] and
 //! leaves a lent output as it was. A module is told by its position in the set, from 0; [`form::module_names`] lists the names
-//! in that order. A call takes up to 700 KiB of stack (`resolve`; `saqhovune.h` has a figure for each), so a thread with a
+//! in that order. A call takes up to 710 KiB of stack (`resolve`; `saqhovune.h` has a figure for each), so a thread with a
 //! small stack is no place for it.
 //!
 //! ```
