@@ -8,34 +8,43 @@ use Rattle.records.specs.Name.{printable, nameOf, afterName, isField, isName, i
 use Rattle.records.specs.Record.{markOf, sizeOf, bodyOf, recordMore, whole, recordsFrom, records, markFor, setKind, requestKind, kindIn, isModule, isRequires, isBody, isOf, bodiesIn, bodies}
 use Rattle.records.specs.Descriptor.{hasFlag, requirementOf, entryOf, moduleName, headerOf, descriptorOf, isTarget, reaches}
 use Rattle.records.specs.Request.{isLimit, rowOf, rowOn, checkRecordsFrom, checkRecords, thenRequest, checkInputs, readOf, grantOf, limitOf, requestOf, withinLimit, isPermitted, hasRead, hasGrant}
-use Rattle.records.specs.Set.{bodyAt, nameAt, isPlaced, admitAt, passAt, judgeAt, tableOf, accepted, refused as refusedSet, goOn, checkFrom, checkSet, upToModule, blocksOf, blocks, modules}
-use Rattle.records.specs.Finder.{findName, findModule}
+use Rattle.records.specs.Set.{bodyAt, nameAt, isPlaced, admitAt, passAt, judgeAt, tableOf, accepted, refused as refusedSet, goOn, checkFrom, checkSet, upToNext, blocksOf, blocks, modules}
+use Rattle.records.specs.Finder.{findName, findModule, isAt, isFirst}
 use Rattle.records.specs.declared.set.SetAnswer.{SetAnswer}
 use Rattle.records.proofs.automatic.Cases.{case-6, case-6-name, case-7, case-8}
+use Rattle.resolution.specs.Lists.{Name}
 use Rattle.resolution.specs.Resolve.{bitsFrom, wordsFrom, words, memberAt, edgeAt, unnamedAt, configurationOf, told, answered, resolve}
 use Rattle.resolution.specs.Resolution as Resolution
+use Rattle.resolution.specs.Positions.{isVisible}
+use Rattle.resolution.specs.Observed.{hasMember, hasEdge, hasUnnamedEdge}
 use Rattle.resolution.specs.Row.{bit, holds, one}
 use Rattle.resolution.specs.Graph.{edge}
 use Rattle.resolution.specs.Reads.{reads}
 use Rattle.resolution.specs.Cases.{a, b, c}
 use Rattle.resolution.proofs.ByteCases.{byte-case1, byte-case2, byte-case3, byte-case4, byte-case5, byte-case10}
-use Rattle.access.specs.Access.{heldAt, edgeTo, edgeFrom, isMember, readsName, resolvedModule, entriesOf, grantsOf, denied, grants, granted, namedVerdict, unnamedGranted, unnamedVerdict, verdict, answered as answeredAccess, checkAccess}
+use Rattle.access.specs.Access.{passes, isMember, edgeTo, isReader, readsName, resolvedModule, entriesOf, grantsOf, denied, grants, granted, namedVerdict, unnamedGranted, unnamedVerdict, verdict, answered as answeredAccess, checkAccess}
 use Rattle.access.specs.Demand3.{configuration}
 use Rattle.access.specs.Cases.{exportsSet, rootC, p, TenCases}
+use Rattle.access.specs.declared.access.AccessAnswer.{AccessAnswer}
 use Rattle.access.specs.declared.access.AccessAnswer.the-variants.{Verdict}
 use Rattle.access.specs.declared.access.AccessCheckResult.the-variants.{NotExported}
 
--- one line opens all that case 9 computes
-compute : List ℕ → List ℕ → SetAnswer
-unfolding checkInputs thenRequest checkRecords checkRecordsFrom rowOn rowOf isLimit kindIn requestKind checkSet checkFrom goOn judgeAt passAt admitAt isPlaced accepted refusedSet tableOf nameAt bodyAt moduleName memName isBody isModule isRequires isNameList isNameVersion isVersion isList isNames isName isField isEmpty afterName nameOf printable setKind records recordsFrom whole recordMore bodyOf sizeOf markOf u16At sameBytes modules blocks blocksOf upToModule isOf markFor descriptorOf headerOf bodies bodiesIn hasFlag requirementOf entryOf namesOf listOf limitOf readOf grantOf requestOf withinLimit isPermitted hasRead hasGrant isTarget reaches findName findModule exportsSet rootC p a b c
+-- one line opens all that decoding and the checks compute
+unfoldable pub compute : List ℕ → List ℕ → SetAnswer
+unfolding checkInputs thenRequest checkRecords checkRecordsFrom rowOn rowOf isLimit kindIn requestKind checkSet checkFrom goOn judgeAt passAt admitAt isPlaced accepted refusedSet tableOf nameAt bodyAt moduleName memName isBody isModule isRequires isNameList isNameVersion isVersion isList isNames isName isField isEmpty afterName nameOf printable setKind records recordsFrom whole recordMore bodyOf sizeOf markOf u16At sameBytes modules blocks blocksOf upToNext isOf markFor descriptorOf headerOf bodies bodiesIn hasFlag requirementOf entryOf namesOf listOf limitOf readOf grantOf requestOf withinLimit isPermitted hasRead hasGrant isTarget reaches findName findModule isAt isFirst p a b c
 compute s q = checkInputs s q .answer
 
+-- and one all that resolution and a question do
+unfoldable pub ask : List ℕ → List ℕ → Name → Name → Name → AccessAnswer
+unfolding compute bitsFrom wordsFrom words memberAt edgeAt unnamedAt configurationOf told answered resolve Resolution.resolve bit holds one edge reads hasMember hasEdge hasUnnamedEdge isVisible passes isMember edgeTo isReader readsName resolvedModule entriesOf grantsOf denied grants granted namedVerdict unnamedGranted unnamedVerdict verdict answeredAccess checkAccess
+ask s q asker target pkg = checkAccess false s q (configuration s q) asker target pkg
+
 case9-reads : readsName exportsSet (configuration exportsSet rootC) c a ≡ true
-unfolding compute bitsFrom wordsFrom words memberAt edgeAt unnamedAt configurationOf told answered resolve Resolution.resolve bit holds one edge reads heldAt edgeTo edgeFrom isMember readsName
+unfolding ask exportsSet rootC
 case9-reads = refl
 
 case9 : checkAccess false exportsSet rootC (configuration exportsSet rootC) c a p ≡ Verdict NotExported
-unfolding compute bitsFrom wordsFrom words memberAt edgeAt unnamedAt configurationOf told answered resolve Resolution.resolve bit holds one edge reads heldAt edgeTo edgeFrom isMember readsName resolvedModule entriesOf grantsOf denied grants granted namedVerdict unnamedGranted unnamedVerdict verdict answeredAccess checkAccess
+unfolding ask exportsSet rootC
 case9 = refl
 
 pub ten-cases : TenCases

@@ -13,16 +13,16 @@ use Rattle.resolution.specs.Owner.{owner}
 use Rattle.resolution.specs.Positions.{moduleAt}
 use Rattle.resolution.specs.Resolution.{find, hasModule, indexOf}
 use Rattle.resolution.proofs.Edges.{grant-over}
-use Rattle.resolution.proofs.Find.{find-mem, find-in, has-find, has-some, unique-of}
+use Rattle.resolution.proofs.Find.{find-mem, find-in, has-find, has-some}
 use Rattle.resolution.proofs.PackageOwner.{owner-resolved}
-use Rattle.resolution.proofs.Positions.{index-in, find-at, at-mem}
+use Rattle.resolution.proofs.Positions.{find-at, visible-found, index-visible}
 use Rattle.resolution.proofs.Sets.{unaltered-over}
 use Rattle.resolution.proofs.Wider as Wider
 use Rattle.access.specs.Access.{readsName, resolvedModule, grantsOf, verdict, checkAccess}
 use Rattle.access.specs.Demand3.{configuration, Resolved, Owns, Grows, KeepsAll, Demand3}
 use Rattle.access.specs.declared.access.AccessAnswer.the-variants.{Verdict}
 use Rattle.access.specs.declared.access.AccessCheckResult.the-variants.{Allowed}
-use Rattle.access.proofs.Names.{Done, accepted-out, done-good, done-accepted, done-named}
+use Rattle.access.proofs.Names.{Done, accepted-out, done-accepted, done-named}
 use Rattle.access.proofs.Verdicts.{verdict-over, answer-is, verdict-out}
 
 -- ---- the first half
@@ -64,7 +64,7 @@ module _ (s q : List ℕ) (d : Done s q) where
 module _ (s₁ q₁ s₂ q₂ : List ℕ) (d₁ : Done s₁ q₁) (d₂ : Done s₂ q₂) (w : Grows s₁ q₁ s₂ q₂) where
   over : Wider (modules s₁) (requestOf q₁) (modules s₂) (requestOf q₂)
   over = record {
-    modules = unaltered-over s₁ s₂ (done-good s₂ q₂ d₂ .once) (w .modules);
+    modules = unaltered-over s₁ s₂ (w .modules);
     roots = w .roots;
     permits = w .permitted;
     addReads = w .addReads;
@@ -97,13 +97,13 @@ module _ (s₁ q₁ s₂ q₂ : List ℕ) (d₁ : Done s₁ q₁) (d₂ : Done s
       let a = o₁ .at (h .0) (h .1) in
       let m : Descriptor = moduleAt (modules s₁) (h .0) in
       let f : find n (modules s₂) ≡ some m
-      = over .modules n m (subst (λ (z : Name). find z (modules s₁) ≡ some m) (h .2) (unique-of (modules s₁) (done-good s₁ q₁ d₁ .once) m (at-mem (modules s₁) (h .0) (a .0)))) in
+      = over .modules n m (subst (λ (z : Name). find z (modules s₁) ≡ some m) (h .2) (visible-found (modules s₁) (h .0) (a .0))) in
       let y : hasModule (modules s₂) n ≡ true = has-find n (modules s₂) m f in
       let i : ℕ = indexOf n (modules s₂) in
       let z : moduleAt (modules s₂) i .name ≡ n = find-mem n (modules s₂) (moduleAt (modules s₂) i) (find-at n (modules s₂) y) .1 in
       let b : owner (d₂ .state .resolved) p ≡ some (moduleAt (modules s₂) i .name)
       = kept .owners p n (a .1 ∙ ap some (h .2)) ∙ ap some (sym z) in
-      (i, o₂ .is-at i (index-in n (modules s₂) y) b, z)
+      (i, o₂ .is-at i (index-visible n (modules s₂) y) b, z)
 
   allowed-kept : (reflection : Bool) (asker target p : Name) → checkAccess reflection s₁ q₁ (configuration s₁ q₁) asker target p ≡ Verdict Allowed
       → checkAccess reflection s₂ q₂ (configuration s₂ q₂) asker target p ≡ Verdict Allowed

@@ -3,4 +3,7 @@ pub mod ReadNames
 pub mod Names
 pub mod Verdicts
 pub mod Demand3
+pub mod Visible
+pub mod Agree
 pub mod Cases
+pub mod PlaceCases

@@ -1,12 +1,11 @@
 -- An accepted pair of a set and a request: what the words of its configuration say, told by names of the modules resolved.
 use mathlib.Core.Path.{_≡_, refl, sym, ap, _∙_, subst}
-use Prim.Native.Nat.{ℕ, _+_, _*_, _/_, _%_, _≤_, _<_}
+use Prim.Native.Nat.{ℕ, _≤_}
 use native.Mathlib.Omega.{arith}
-use mathlib.Core.Bool.{Bool, true, false, _&&_, or-false}
+use mathlib.Core.Bool.{Bool, true, false, _&&_, _||_, or-false}
 use mathlib.Core.Option.{Option, none, some}
 use mathlib.Core.List.{List}
 use lib.ListN.{length}
-use borrow.Author.Tests.{lt-ltb}
 use Rattle.records.specs.Bytes.{sameBytes}
 use Rattle.records.specs.Descriptor.{Descriptor}
 use Rattle.records.specs.Finder.{findModule}
@@ -21,23 +20,22 @@ use Rattle.records.proofs.Logic.{clash, by, true≠false}
 use Rattle.records.proofs.bytes.Laws.{same-eq}
 use Rattle.records.proofs.set.Blocks.{GoodSet, good-set}
 use Rattle.resolution.specs.Closed.{Accepted}
-use Rattle.resolution.specs.Graph.{edge}
 use Rattle.resolution.specs.Lists.{Name}
 use Rattle.resolution.specs.Loop.{Result, failed, done}
+use Rattle.resolution.specs.Observed.{hasMember, hasEdge, hasUnnamedEdge}
 use Rattle.resolution.specs.Positions.{moduleAt}
 use Rattle.resolution.specs.Reads.{reads, readsFrom}
 use Rattle.resolution.specs.Resolution.{find, hasModule, Refusal, State}
 use Rattle.resolution.specs.Resolution as Resolution
 use Rattle.resolution.specs.Resolve.{memberAt, edgeAt, unnamedAt, configurationOf, refused, told, answered, resolve}
-use Rattle.resolution.specs.Row.{holds}
 use Rattle.resolution.specs.declared.configuration.Configuration.{Configuration}
 use Rattle.resolution.specs.declared.resolve.Outcome.the-variants as Outcome
 use Rattle.resolution.proofs.Find.{find-mem, has-find, has-names, has-some}
-use Rattle.resolution.proofs.Positions.{Located, find-none}
+use Rattle.resolution.proofs.Observed.{member-is, edge-is, unnamed-is}
+use Rattle.resolution.proofs.Positions.{Located, find-none, located-visible}
 use Rattle.resolution.proofs.Sets.{set-length, set-accepted, set-located, set-not-located}
-use Rattle.resolution.proofs.WordBits.{holds-words}
 use Rattle.resolution.proofs.resolve.Laws.{resolve-set}
-use Rattle.access.specs.Access.{heldAt, edgeTo, edgeFrom, isMember, readsName, resolvedModule}
+use Rattle.access.specs.Access.{passes, isMember, edgeTo, isReader, readsName, resolvedModule}
 use Rattle.access.specs.Demand3.{IsAccepted, configuration}
 
 -- ---- an accepted pair
@@ -69,34 +67,6 @@ pub configuration-is : (s q : List ℕ) (d : Done s q) → configuration s q ≡
 unfolding resolve answered told
 configuration-is s q d =
     ap (λ (a : SetAnswer). answered s q a .configuration) (d .taken) ∙ ap (λ (r : Result State Refusal). told s q r .configuration) (d .finished)
-
--- ---- the words, by positions
-
--- row i has bits 256 i to 256 i + 255
-row-bit : (g : List ℕ) (i j : ℕ) → j < 256 → edge g i j ≡ holds g (i * 256 + j)
-unfolding edge holds
-row-bit g i j l =
-    let a : (i * 256 + j) / 64 ≡ i * 4 + j / 64 = omega arith in
-    let b : (i * 256 + j) % 64 ≡ j % 64 = omega arith in
-    rw (lt-ltb j 256 l, a, b)
-
-module _ (S : List Descriptor) (long : length S ≤ 256) (rq : Request) (R : List Descriptor) where
-  member-at : (i : ℕ) → i < length S → holds (configurationOf S rq R .members) i ≡ hasModule R (moduleAt S i .name)
-  unfolding configurationOf memberAt
-  member-at i l = holds-words (memberAt S R) 4 i (omega arith) ∙ rw (lt-ltb i (length S) l)
-
-  unnamed-at : (i : ℕ) → i < length S → holds (configurationOf S rq R .unnamed) i ≡ reads R rq (moduleAt S i .name) allUnnamed
-  unfolding configurationOf unnamedAt
-  unnamed-at i l = holds-words (unnamedAt S rq R) 4 i (omega arith) ∙ rw (lt-ltb i (length S) l)
-
-  edge-at : (i j : ℕ) → i < length S → j < length S → edge (configurationOf S rq R .reads) i j ≡ reads R rq (moduleAt S i .name) (moduleAt S j .name)
-  unfolding configurationOf edgeAt
-  edge-at i j l m =
-      let a : (i * 256 + j) / 256 ≡ i = omega arith in
-      let b : (i * 256 + j) % 256 ≡ j = omega arith in
-      row-bit (configurationOf S rq R .reads) i j (omega arith)
-      ∙ holds-words (λ (k : ℕ). edgeAt S rq R (k / 256) (k % 256)) 1024 (i * 256 + j) (omega arith)
-      ∙ rw (a, b, lt-ltb i (length S) l, lt-ltb j (length S) m)
 
 -- ---- reads of the modules resolved
 
@@ -149,27 +119,28 @@ module _ (s : List ℕ) (n : ℕ) (t : List ℕ) (g : GoodSet s n t) (rq : Reque
       (λ k. k)
 
   members-named : (x : Name) → isMember s c x ≡ hasModule R x
-  unfolding isMember heldAt
+  unfolding isMember passes memberAt
   members-named x = turned (findModule s x) refl
     where
-      turned : (f : Found) → findModule s x ≡ f → heldAt (c .members) f ≡ hasModule R x
+      turned : (f : Found) → findModule s x ≡ f → passes (hasMember S c) f ≡ hasModule R x
       turned (At i) e =
           let o = set-located s x i e in
-          member-at S long rq R i (o .within) ∙ ap (hasModule R) (name-at x i o)
+          member-is S long rq R i ∙ rw (located-visible x S i o) (ap (hasModule R) (name-at x i o))
       turned Nothing e = sym (not-in x (set-not-located s x e .0))
 
-  -- a read edge, where the source is a module of the set
-  edges-named : (x y : Name) (i : ℕ) → Located x S i → (f : Found) → findModule s y ≡ f → edgeFrom c (At i) f (sameBytes y allUnnamed) ≡ reads R rq x y
-  unfolding edgeFrom edgeTo
+  -- an edge, where the source is a module of the set
+  edges-named : (x y : Name) (i : ℕ) → Located x S i → (f : Found) → findModule s y ≡ f
+      → passes (hasEdge S c i) f || (sameBytes y allUnnamed && hasUnnamedEdge S c i) ≡ reads R rq x y
+  unfolding passes edgeAt unnamedAt
   edges-named x y i o (At j) e =
       let k = set-located s y j e in
-      let u : edge (c .reads) i j ≡ reads R rq x y
-      = edge-at S long rq R i j (o .within) (k .within) ∙ rw (name-at x i o, name-at y j k) in
+      let u : hasEdge S c i j ≡ reads R rq x y
+      = edge-is S long rq R i j ∙ rw (located-visible x S i o, located-visible y S j k, name-at x i o, name-at y j k) in
       rw (named y (k .observable), u) (or-false (reads R rq x y))
   edges-named x y i o Nothing e = by (sameBytes y allUnnamed)
       (λ k.
-      let u : holds (c .unnamed) i ≡ reads R rq x y
-      = unnamed-at S long rq R i (o .within) ∙ rw (name-at x i o, same-eq y allUnnamed k) in
+      let u : hasUnnamedEdge S c i ≡ reads R rq x y
+      = unnamed-is S long rq R i ∙ rw (located-visible x S i o, name-at x i o, same-eq y allUnnamed k) in
       rw (k, u))
       (λ k. rw (k, reads-target R rq x y (not-in y (set-not-located s y e .0)) k))
 
@@ -179,16 +150,15 @@ module _ (s : List ℕ) (n : ℕ) (t : List ℕ) (g : GoodSet s n t) (rq : Reque
   source-counts x y false e = sym (reads-source R rq x y e)
 
   reads-named : (x y : Name) → readsName s c x y ≡ reads R rq x y
-  unfolding readsName
-  reads-named x y = rw (members-named x) (turned (findModule s x) refl)
+  unfolding readsName passes isReader edgeTo memberAt
+  reads-named x y = turned (findModule s x) refl
     where
-      turned : (f : Found) → findModule s x ≡ f → hasModule R x && edgeFrom c f (findModule s y) (sameBytes y allUnnamed) ≡ reads R rq x y
+      turned : (f : Found) → findModule s x ≡ f → passes (isReader s c y) f ≡ reads R rq x y
       turned (At i) e =
-          ap (λ (b : Bool). hasModule R x && b) (edges-named x y i (set-located s x i e) (findModule s y) refl)
-          ∙ source-counts x y (hasModule R x) refl
-      turned Nothing e =
-          let h : hasModule R x ≡ false = not-in x (set-not-located s x e .0) in
-          rw (h, reads-source R rq x y h)
+          let o = set-located s x i e in
+          let m : hasMember S c i ≡ hasModule R x = member-is S long rq R i ∙ rw (located-visible x S i o) (ap (hasModule R) (name-at x i o)) in
+          rw m (ap (λ (b : Bool). hasModule R x && b) (edges-named x y i o (findModule s y) refl) ∙ source-counts x y (hasModule R x) refl)
+      turned Nothing e = sym (reads-source R rq x y (not-in x (set-not-located s x e .0)))
 
   module-named : (x : Name) → resolvedModule s c x ≡ find x R
   unfolding resolvedModule

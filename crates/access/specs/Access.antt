@@ -15,8 +15,7 @@ use Rattle.records.specs.declared.finder.Found.the-variants.{At, Nothing}
 use Rattle.records.specs.declared.set.SetAnswer.{SetAnswer}
 use Rattle.records.specs.declared.set.SetAnswer.the-variants as Set
 use Rattle.resolution.specs.Lists.{Name}
-use Rattle.resolution.specs.Row.{holds}
-use Rattle.resolution.specs.Graph.{edge}
+use Rattle.resolution.specs.Observed.{hasMember, hasEdge, hasUnnamedEdge}
 use Rattle.resolution.specs.Resolution.{find}
 use Rattle.resolution.specs.declared.configuration.Configuration.{Configuration}
 use Rattle.access.specs.declared.access.AccessCheckResult.{AccessCheckResult}
@@ -24,29 +23,32 @@ use Rattle.access.specs.declared.access.AccessCheckResult.the-variants.{
 use Rattle.access.specs.declared.access.AccessAnswer.{AccessAnswer}
 use Rattle.access.specs.declared.access.AccessAnswer.the-variants.{Verdict, Refused}
 
--- ---- what a configuration says of names
+-- ---- what a configuration says of names, by the three tests of the crate `resolution` (`Observed`)
 
-unfoldable pub heldAt : List ℕ → Found → Bool
-heldAt ws (At i) = holds ws i
-heldAt ws Nothing = false
+-- what is found passes the test
+unfoldable pub passes : (ℕ → Bool) → Found → Bool
+passes p (At i) = p i
+passes p Nothing = false
 
-unfoldable pub edgeTo : List ℕ → ℕ → Found → Bool
-edgeTo reads i (At j) = edge reads i j
-edgeTo reads i Nothing = false
-
-unfoldable pub edgeFrom : Configuration → Found → Found → Bool → Bool
-edgeFrom c (At i) y unnamed = edgeTo (c .reads) i y || (unnamed && holds (c .unnamed) i)
-edgeFrom c Nothing y unnamed = false
-
--- the module of this name is a member: "Bits at positions without a module are ignored"
+-- the module of this name is a member
 unfoldable pub isMember : List ℕ → Configuration → Name → Bool
-unfolding heldAt
-isMember s c n = heldAt (c .members) (findModule s n)
+unfolding passes hasMember
+isMember s c n = passes (hasMember (modules s) c) (findModule s n)
 
--- x reads y, which may be ALL-UNNAMED: "an edge counts if its source is a member"
+-- an edge leads from the module at i to y, which may be ALL-UNNAMED
+unfoldable pub edgeTo : List ℕ → Configuration → Name → ℕ → Bool
+unfolding passes hasEdge hasUnnamedEdge
+edgeTo s c y i = passes (hasEdge (modules s) c i) (findModule s y) || (sameBytes y allUnnamed && hasUnnamedEdge (modules s) c i)
+
+-- the module at i reads y: "an edge counts if its source is a member"
+unfoldable pub isReader : List ℕ → Configuration → Name → ℕ → Bool
+unfolding hasMember edgeTo
+isReader s c y i = hasMember (modules s) c i && edgeTo s c y i
+
+-- x reads y
 unfoldable pub readsName : List ℕ → Configuration → Name → Name → Bool
-unfolding isMember edgeFrom edgeTo
-readsName s c x y = isMember s c x && edgeFrom c (findModule s x) (findModule s y) (sameBytes y allUnnamed)
+unfolding passes isReader
+readsName s c x y = passes (isReader s c y) (findModule s x)
 
 -- the module of this name, where it is resolved
 unfoldable pub resolvedModule : List ℕ → Configuration → Name → Option Descriptor

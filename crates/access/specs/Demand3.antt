@@ -5,7 +5,8 @@ use mathlib.Core.Bool.{Bool, true}
 use mathlib.Core.List.{List}
 use Prim.Native.Nat.{ℕ}
 use Rattle.records.specs.Request.{Read, Grant, requestOf, isPermitted}
-use Rattle.records.specs.Set.{blocks, modules}
+use Rattle.records.specs.Set.{modules}
+use Rattle.records.specs.Finder.{visibleBlocks}
 use Rattle.resolution.specs.Lists.{Name, Mem}
 use Rattle.resolution.specs.Closed.{Smallest}
 use Rattle.resolution.specs.Resolve.{resolve}
@@ -36,8 +37,8 @@ Owns s q n p = (i : ℕ) × (findModuleForPackage s (configuration s q) p ≡ At
 
 -- "of any two accepted requests, each with its set"
 pub record Grows (s₁ q₁ s₂ q₂ : List ℕ) : Type 0 where
-  -- "each module observable in the first is so in the second, unaltered"
-  pub modules : (b : List ℕ) → Mem b (blocks s₁) → Mem b (blocks s₂)
+  -- "each name seen in the first set gives the same module in the second", unaltered
+  pub modules : (b : List ℕ) → Mem b (visibleBlocks s₁) → Mem b (visibleBlocks s₂)
   -- "the second has at least the first's roots"
   pub roots : (n : Name) → Mem n (requestOf q₁ .roots) → Mem n (requestOf q₂ .roots)
   -- "permitted names"

@@ -1,5 +1,5 @@
--- What each step of the questions about the graph leaves. As in ReadGraph, n is the number of the set's modules, ws are the words of
--- the members, g those of the read edges and un those of the readers of ALL-UNNAMED.
+-- What each step of the questions about the graph leaves. Everywhere below n is the number of the set's modules, ws are the words of
+-- the members, g those of the read edges and un those of the readers of ALL-UNNAMED; v tells the positions of observable modules.
 use mathlib.Core.Path.{_≡_}
 use mathlib.Core.Bool.{Bool, true, false, _&&_, _||_}
 use mathlib.Core.List.{List}
@@ -9,8 +9,8 @@ use Rattle.records.specs.declared.finder.Found.{Found}
 use Rattle.resolution.specs.Row.{holds}
 use Rattle.resolution.specs.Graph.{edge}
 use Rattle.resolution.specs.Resolve.{words}
-use Rattle.access.specs.Access.{edgeTo}
-use Rattle.access.specs.ReadGraph.{countsAt, Leads, LeadsToUnnamed}
+use Rattle.access.specs.Access.{passes}
+use Rattle.access.specs.ReadGraph.{Leads, LeadsToOne}
 use Rattle.access.specs.declared.graph.GraphOutcome.the-variants.{Answered}
 use Rattle.access.specs.declared.graph.GraphAnswer.{GraphAnswer}
 
@@ -22,24 +22,43 @@ pub record Told (row : List ℕ) (unnamed : Bool) (r : GraphAnswer) : Type 0 whe
 
 -- the member at k reads what is found or, if asked, ALL-UNNAMED
 unfoldable pub readerAt : List ℕ → List ℕ → List ℕ → Found → Bool → ℕ → Bool
-unfolding edgeTo
-readerAt ws g un f u k = holds ws k && (edgeTo g k f || (u && holds un k))
+unfolding passes
+readerAt ws g un f u k = holds ws k && (passes (edge g k) f || (u && holds un k))
 
 unfoldable pub readerBelow : ℕ → List ℕ → List ℕ → List ℕ → Found → Bool → ℕ → Bool
 unfolding readerAt
 readerBelow n ws g un f u k = ltb k n && readerAt ws g un f u k
 
-unfoldable pub heldBelow : ℕ → List ℕ → ℕ → Bool
-heldBelow n row k = ltb k n && holds row k
+-- the positions below n that both rows hold
+unfoldable pub heldBoth : ℕ → List ℕ → List ℕ → ℕ → Bool
+heldBoth n seen row k = ltb k n && (holds seen k && holds row k)
+
+-- position i is that of an observable module, and ws holds it
+unfoldable pub countsAt : (ℕ → Bool) → List ℕ → ℕ → Bool
+countsAt v ws i = v i && holds ws i
+
+-- an edge that counts leads from i to j
+unfoldable pub edgeCounts : (ℕ → Bool) → List ℕ → List ℕ → ℕ → ℕ → Bool
+unfolding countsAt
+edgeCounts v ws g i j = countsAt v ws i && (v j && edge g i j)
+
+-- and one to ALL-UNNAMED
+unfoldable pub unnamedCounts : (ℕ → Bool) → List ℕ → List ℕ → ℕ → Bool
+unfolding countsAt
+unnamedCounts v ws un i = countsAt v ws i && holds un i
+
+-- the positions seen are below n, and the members are among them
+pub record Masked (n : ℕ) (seen ws : List ℕ) : Type 0 where
+  pub within : (k : ℕ) → holds seen k ≡ true → k < n
+  pub inside : (k : ℕ) → holds ws k ≡ true → holds seen k ≡ true
 
 -- the row, and what i reads if it is in the row and a member
 unfoldable pub spreadAt : List ℕ → List ℕ → List ℕ → ℕ → ℕ → Bool
 spreadAt row ws g i j = holds row j || ((holds row i && holds ws i) && edge g i j)
 
--- an edge that counts leads from i to j, which may be past the modules
+-- an edge that counts leads from i to j, which may be past the modules, or hidden
 unfoldable pub onwardAt : ℕ → List ℕ → List ℕ → ℕ → ℕ → Bool
-unfolding countsAt
-onwardAt n ws g i j = countsAt n ws i && edge g i j
+onwardAt n ws g i j = (ltb i n && holds ws i) && edge g i j
 
 -- k is in the row, or such edges lead there from it
 pub data From (n : ℕ) (ws g row : List ℕ) : ℕ → Type 0 where
@@ -66,10 +85,10 @@ unfoldable pub unnamedIn : List ℕ → List ℕ → List ℕ → ℕ → Bool
 unnamedIn row ws un k = holds row k && (holds ws k && holds un k)
 
 -- the answer r tells what the module at i leads to
-pub record Onward (n : ℕ) (ws g un : List ℕ) (i : ℕ) (r : GraphAnswer) : Type 0 where
+pub record Onward (v : ℕ → Bool) (ws g un : List ℕ) (i : ℕ) (r : GraphAnswer) : Type 0 where
   pub outcome : r .outcome ≡ Answered
   pub row-words : r .row ≡ words (holds (r .row)) 4
-  pub row-sound : (k : ℕ) → holds (r .row) k ≡ true → Leads n ws g i k
-  pub row-complete : (k : ℕ) → Leads n ws g i k → holds (r .row) k ≡ true
-  pub unnamed-sound : r .unnamed ≡ true → LeadsToUnnamed n ws g un i
-  pub unnamed-complete : LeadsToUnnamed n ws g un i → r .unnamed ≡ true
+  pub row-sound : (k : ℕ) → holds (r .row) k ≡ true → Leads (edgeCounts v ws g) i k
+  pub row-complete : (k : ℕ) → Leads (edgeCounts v ws g) i k → holds (r .row) k ≡ true
+  pub unnamed-sound : r .unnamed ≡ true → LeadsToOne (edgeCounts v ws g) (unnamedCounts v ws un) i
+  pub unnamed-complete : LeadsToOne (edgeCounts v ws g) (unnamedCounts v ws un) i → r .unnamed ≡ true

@@ -10,7 +10,8 @@ ghost use Rattle.records.specs.Request.{requestOf, hasGrant};
 ghost use Rattle.records.specs.Set.{checkSet};
 ghost use Rattle.records.specs.Finder.{findModule};
 ghost use Rattle.records.specs.declared.set.SetAnswer.the-variants.{Modules};
-ghost use Rattle.access.specs.Access.{heldAt, readsName, entriesOf, grantsOf, denied as deniedBy, pickResult, grants as grantsBy, granted as grantedBy, unnamedGranted, checkAccess};
+ghost use Rattle.resolution.specs.Row.{holds};
+ghost use Rattle.access.specs.Access.{passes, readsName, entriesOf, grantsOf, denied as deniedBy, pickResult, grants as grantsBy, granted as grantedBy, unnamedGranted, checkAccess};
 ghost use Rattle.access.specs.Members.{moduleOf, verdictBy};
 ghost use Rattle.access.specs.CanRead.{canRead};
 ghost use Rattle.access.specs.declared.access.AccessCheckResult.the-variants.{Allowed};
@@ -66,7 +67,7 @@ fn is_unnamed(name: &[u8], unnamed: bool) -> bool
 // Whether the row holds the module of this name, or, where it reads ALL-UNNAMED, the name is that.
 fn leads_to(set: &[u8], starts: &[usize], count: usize, row: Row, unnamed: bool, to: &[u8]) -> bool
     requires { ⌜ checkSet (now set) ≡ record { answer = Modules count; starts = now starts } ⌝ }
-    ensures { λ r. ⌜ r ≡ heldAt (row .words) (findModule (now (set .entry)) (now (to .entry))) || (sameBytes (now (to .entry)) allUnnamed && unnamed) ⌝ }
+    ensures { λ r. ⌜ r ≡ passes (holds (row .words)) (findModule (now (set .entry)) (now (to .entry))) || (sameBytes (now (to .entry)) allUnnamed && unnamed) ⌝ }
 {
     if is_unnamed(to, unnamed) {
         return true;

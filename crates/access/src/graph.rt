@@ -4,17 +4,23 @@ ghost use mathlib.Core.Path.{_≡_};
 ghost use mathlib.Core.Bool.{true, _||_};
 ghost use Prim.Native.Nat.{_≤_};
 ghost use lib.ListN.{length};
+ghost use Rattle.records.specs.Set.{checkSet, modules};
+ghost use Rattle.records.specs.declared.set.SetAnswer.the-variants.{Modules};
+ghost use Rattle.resolution.specs.Lookup.{Lookup};
+ghost use Rattle.resolution.specs.Positions.{isVisible};
 ghost use Rattle.resolution.specs.Row.{holds};
-ghost use Rattle.resolution.specs.Graph.{Successors};
+ghost use Rattle.resolution.specs.Graph.{edge, Successors};
 ghost use Rattle.resolution.specs.Readability.{Holding};
-ghost use Rattle.access.specs.Access.{edgeTo};
-ghost use Rattle.access.specs.ReadGraph.{countsAt, refusedGraph, readersOf, TransitiveReads};
-ghost use Rattle.access.specs.GraphSteps.{Told, readerAt, readerBelow, heldBelow, spreadAt, Swept, Gathered, anyBelow, unnamedIn, Onward};
+ghost use Rattle.access.specs.Access.{passes};
+ghost use Rattle.access.specs.ReadGraph.{refusedGraph, readersOf, TransitiveReads};
+ghost use Rattle.access.specs.GraphSteps.{Told, readerAt, readerBelow, heldBoth, countsAt, Masked, spreadAt, Swept, Gathered, anyBelow, unnamedIn, Onward};
 use crate::members::member;
 use records::bytes::same;
 use records::error::ModuleError;
 use records::finder::Found;
 use records::finder::find;
+use records::index::add_all;
+use records::index::is_first;
 use records::set::SetAnswer;
 use records::set::check_set;
 use resolution::configuration::Configuration;
@@ -74,7 +80,7 @@ fn row_at(g: &[u64], i: usize) -> Row
 // An edge from i to what is found.
 fn reads_found(g: &[u64], i: usize, found: Found) -> bool
     requires { ⌜ length (now g) ≡ 1024 ⌝ }
-    ensures { λ r. ⌜ r ≡ edgeTo (now (g .entry)) i found ⌝ }
+    ensures { λ r. ⌜ r ≡ passes (edge (now (g .entry)) i) found ⌝ }
 {
     match found {
         Found::At(j) => has(row_at(g, i), j),
@@ -117,18 +123,20 @@ fn readers(g: &[u64], members: Row, unnamed: Row, found: Found, asked: bool, n: 
     row
 }
 
-// The positions of the row below n.
-fn below(row: Row, n: usize) -> Row
+// The positions below n that both rows have.
+fn both(seen: Row, row: Row, n: usize) -> Row
     requires { ⌜ n ≤ 256 ⌝ }
-    ensures { λ r. ⌜ Holding (r .words) (heldBelow n (row .words)) ⌝ }
+    ensures { λ r. ⌜ Holding (r .words) (heldBoth n (seen .words) (row .words)) ⌝ }
 {
     let mut out = empty();
     let mut k: usize = 0;
     while k < n {
         let i = k;
         k += 1;
-        if has(row, i) {
-            out = with(out, i);
+        if has(seen, i) {
+            if has(row, i) {
+                out = with(out, i);
+            }
         }
     }
     out
@@ -213,16 +221,52 @@ fn reads_unnamed(row: Row, members: Row, unnamed: Row, n: usize, i: usize) -> bo
     any_unnamed(row, members, unnamed, n)
 }
 
-// What the member at i leads to.
-fn onward(g: &[u64], members: Row, unnamed: Row, n: usize, i: usize) -> GraphAnswer
+// What the member at i leads to. The row `seen` has the modules that are not hidden, and the members are among them.
+fn onward(g: &[u64], seen: Row, members: Row, unnamed: Row, n: usize, i: usize) -> GraphAnswer
     requires { ⌜ length (now g) ≡ 1024 ⌝ }
     requires { ⌜ n ≤ 256 ⌝ }
-    requires { ⌜ countsAt n (members .words) i ≡ true ⌝ }
-    ensures { λ r. ⌜ Onward n (members .words) (now (g .entry)) (unnamed .words) i r ⌝ }
+    requires { ⌜ Masked n (seen .words) (members .words) ⌝ }
+    requires { ⌜ countsAt (holds (seen .words)) (members .words) i ≡ true ⌝ }
+    ensures { λ r. ⌜ Onward (holds (seen .words)) (members .words) (now (g .entry)) (unnamed .words) i r ⌝ }
 {
     let row = gather(g, members, row_at(g, i), n);
     let last = reads_unnamed(row, members, unnamed, n, i);
-    tell(below(row, n), last)
+    tell(both(seen, row, n), last)
+}
+
+// The positions of the modules that are not hidden, by an index of their names.
+fn visible_in(set: &[u8], starts: &[usize], n: usize, index: &[u16]) -> Row
+    requires { ⌜ checkSet (now set) ≡ record { answer = Modules n; starts = now starts } ⌝ }
+    requires { ⌜ Lookup (now set) (now starts) n (now index) ⌝ }
+    ensures { λ r. ⌜ Holding (r .words) (isVisible (modules (now (set .entry)))) ⌝ }
+{
+    let mut row = empty();
+    let mut k: usize = 0;
+    while k < n {
+        let i = k;
+        k += 1;
+        if is_first(set, starts, n, index, i) {
+            row = with(row, i);
+        }
+    }
+    row
+}
+
+fn visible(set: &[u8], starts: &[usize], n: usize) -> Row
+    requires { ⌜ checkSet (now set) ≡ record { answer = Modules n; starts = now starts } ⌝ }
+    ensures { λ r. ⌜ Holding (r .words) (isVisible (modules (now (set .entry)))) ⌝ }
+{
+    let mut index = [0u16; 1280];
+    add_all(set, starts, n, &mut index);
+    visible_in(set, starts, n, &index)
+}
+
+// The members whose modules are not hidden.
+fn visible_members(set: &[u8], starts: &[usize], n: usize, members: Row) -> Row
+    requires { ⌜ checkSet (now set) ≡ record { answer = Modules n; starts = now starts } ⌝ }
+    ensures { λ r. ⌜ Holding (r .words) (countsAt (isVisible (modules (now (set .entry)))) (members .words)) ⌝ }
+{
+    both(visible(set, starts, n), members, n)
 }
 
 // The members that read the module of this name, or ALL-UNNAMED. The set is checked first.
@@ -240,14 +284,8 @@ pub fn readers_of(set: &[u8], configuration: Configuration, name: &[u8]) -> Grap
             let members = configuration.members;
             let unnamed = configuration.unnamed;
             let g = configuration.reads;
-            let row = readers(
-                &g,
-                Row { words: members },
-                Row { words: unnamed },
-                found,
-                asked,
-                n,
-            );
+            let own = visible_members(set, &starts, n, Row { words: members });
+            let row = readers(&g, own, Row { words: unnamed }, found, asked, n);
             tell(row, false)
         }
     }
@@ -267,7 +305,11 @@ pub fn transitive_reads(set: &[u8], configuration: Configuration, name: &[u8]) -
             let unnamed = configuration.unnamed;
             let g = configuration.reads;
             match member(set, &starts, n, Row { words: members }, name) {
-                Found::At(i) => onward(&g, Row { words: members }, Row { words: unnamed }, n, i),
+                Found::At(i) => {
+                    let seen = visible(set, &starts, n);
+                    let own = both(seen, Row { words: members }, n);
+                    onward(&g, seen, own, Row { words: unnamed }, n, i)
+                }
                 Found::Nothing => tell(empty(), false),
             }
         }

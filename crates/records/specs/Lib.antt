@@ -12,5 +12,7 @@ pub mod Output
 pub mod Record
 pub mod Request
 pub mod Set
+-- The places of a set: the theorems speak of them, and no contract.
+pub mod Places
 -- Examples that the ten cases name.
 pub mod Cases

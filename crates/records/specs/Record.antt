@@ -14,7 +14,7 @@ use Rattle.records.specs.declared.record.Step.the-variants.{Record, Bad,
 use Rattle.records.specs.declared.record.Next.{Next}
 use Rattle.records.specs.declared.record.Next.the-variants.{Body, Nothing}
 use Rattle.records.specs.declared.record.Kind.{Kind}
-use Rattle.records.specs.declared.record.Kind.the-variants.{Module, Requires, Exports, Opens, Uses, Provides, Package, MainClass, Root, LimitModules, AddReads, AddExports, AddOpens, Other}
+use Rattle.records.specs.declared.record.Kind.the-variants.{Module, Requires, Exports, Opens, Uses, Provides, Package, MainClass, Place, Root, LimitModules, AddReads, AddExports, AddOpens, Other}
 
 -- ---- the records of a byte string
 
@@ -74,6 +74,7 @@ markFor Uses = 0x5553
 markFor Provides = 0x5056
 markFor Package = 0x504B
 markFor MainClass = 0x4D43
+markFor Place = 0x504C
 markFor Root = 0x5254
 markFor LimitModules = 0x4C4D
 markFor AddReads = 0x4152
@@ -85,7 +86,7 @@ abbrev pub pickKind : Bool → Kind → Kind → Kind
 pickKind true a b = a
 pickKind false a b = b
 
--- the kind of a record of a set, by its mark: MO RQ EX OP US PV PK MC; any other is Other
+-- the kind of a record of a set, by its mark: MO RQ EX OP US PV PK MC PL; any other is Other
 unfoldable pub setKind : ℕ → Kind
 setKind m =
     pickKind (eqb m 0x4D4F) Module
@@ -96,7 +97,8 @@ setKind m =
     (pickKind (eqb m 0x5056) Provides
     (pickKind (eqb m 0x504B) Package
     (pickKind (eqb m 0x4D43) MainClass
-    Other)))))))
+    (pickKind (eqb m 0x504C) Place
+    Other))))))))
 
 -- of a request: RT LM AR AE AO
 unfoldable pub requestKind : ℕ → Kind
@@ -136,6 +138,7 @@ isBody Uses b = isNames 1 b
 isBody Provides b = isNameList b
 isBody Package b = isNames 1 b
 isBody MainClass b = isNames 1 b
+isBody Place b = isNames 0 b
 isBody Root b = isNames 1 b
 isBody LimitModules b = isList b
 isBody AddReads b = isNames 2 b

@@ -11,7 +11,7 @@ use Rattle.records.specs.Name.{javaBase, nameOf, afterName, listOf, memN
 use Rattle.records.specs.Record.{markOf, bodyOf, records, kindIn, isBody, bodies}
 use Rattle.records.specs.Set.{pickChecked, refused, checkSet}
 use Rattle.records.specs.declared.record.Kind.{Kind}
-use Rattle.records.specs.declared.record.Kind.the-variants.{Module, Requires, Exports, Opens, Uses, Provides, Package, MainClass, Root, LimitModules, AddReads, AddExports, AddOpens, Other}
+use Rattle.records.specs.declared.record.Kind.the-variants.{Module, Requires, Exports, Opens, Uses, Provides, Package, MainClass, Place, Root, LimitModules, AddReads, AddExports, AddOpens, Other}
 use Rattle.records.specs.declared.error.Input.{Input}
 use Rattle.records.specs.declared.error.Input.the-variants as Input
 use Rattle.records.specs.declared.error.ModuleError.the-variants.{Malformed, TooLarge}
@@ -40,6 +40,7 @@ isLimit Uses = false
 isLimit Provides = false
 isLimit Package = false
 isLimit MainClass = false
+isLimit Place = false
 isLimit Root = false
 isLimit LimitModules = true
 isLimit AddReads = false

@@ -9,21 +9,36 @@ use Rattle.records.specs.Name.{allUnnamed, memName}
 use Rattle.records.specs.Record.{markOf, sizeOf, bodyOf, records, setKind, isBody, isOf}
 use Rattle.records.specs.Descriptor.{moduleName, Descriptor, descriptorOf}
 use Rattle.records.specs.declared.record.Kind.{Kind}
-use Rattle.records.specs.declared.record.Kind.the-variants.{Module, Requires, Exports, Opens, Uses, Provides, Package, MainClass, Root, LimitModules, AddReads, AddExports, AddOpens, Other}
+use Rattle.records.specs.declared.record.Kind.the-variants.{Module, Requires, Exports, Opens, Uses, Provides, Package, MainClass, Place, Root, LimitModules, AddReads, AddExports, AddOpens, Other}
 use Rattle.records.specs.declared.error.Input.the-variants.{Set}
 use Rattle.records.specs.declared.error.ModuleError.{ModuleError}
 use Rattle.records.specs.declared.error.ModuleError.the-variants.{Malformed, TooLarge, Repeated}
 use Rattle.records.specs.declared.set.Verdict.{Verdict}
-use Rattle.records.specs.declared.set.Verdict.the-variants.{Stop, Start, Main, Pass}
+use Rattle.records.specs.declared.set.Verdict.the-variants.{Stop, Start, Main, Enter, Pass}
 use Rattle.records.specs.declared.set.SetAnswer.the-variants.{Modules, Refused}
 use Rattle.records.specs.declared.set.Checked.{Checked}
+use Rattle.records.specs.declared.set.Seen.{Seen}
 
 -- ---- the check of a set: its length, then its records front to back, at each 1, 2, 3
 
--- the records so far: the offsets of the MO among them, and whether the last module has its MC
+-- the records so far: the offsets of the MO among them, and of those in the present place; how many places there are, the first
+-- being there before its PL; and whether the last module has its MC
 pub record Passed : Type 0 where
   pub starts : List ℕ
+  pub here : List ℕ
+  pub places : ℕ
   pub main : Bool
+
+-- before the first record
+abbrev pub noneYet : Passed
+noneYet = record { starts = []; here = []; places = 1; main = false }
+
+-- the same of a table of starts and the numbers that tell of it
+abbrev pub hereOf : List ℕ → Seen → List ℕ
+hereOf t n = take (n .count - n .first) (drop (n .first) t)
+
+abbrev pub passedOf : List ℕ → Seen → Passed
+passedOf t n = record { starts = take (n .count) t; here = hereOf t n; places = n .places; main = n .main }
 
 -- the body of the record at this offset of s
 unfoldable pub bodyAt : List ℕ → ℕ → List ℕ
@@ -33,7 +48,8 @@ bodyAt s at = take (sizeOf (drop at s)) (drop 4 (drop at s))
 unfoldable pub nameAt : List ℕ → ℕ → List ℕ
 nameAt s at = moduleName (bodyAt s at)
 
--- a record of this kind may stand here: a set starts with MO, and MC stands at most once in a module
+-- a record of this kind may stand here, where the present place has `count` modules so far: MO and PL anywhere, the others behind
+-- an MO of the place, and MC at most once in a module
 unfoldable pub isPlaced : ℕ → Bool → Kind → Bool
 isPlaced count main Module = true
 isPlaced count main Requires = ltb 0 count
@@ -43,6 +59,7 @@ isPlaced count main Uses = ltb 0 count
 isPlaced count main Provides = ltb 0 count
 isPlaced count main Package = ltb 0 count
 isPlaced count main MainClass = not main && ltb 0 count
+isPlaced count main Place = true
 isPlaced count main Root = false
 isPlaced count main LimitModules = false
 isPlaced count main AddReads = false
@@ -54,34 +71,43 @@ abbrev pub pickVerdict : Bool → Verdict → Verdict → Verdict
 pickVerdict true a b = a
 pickVerdict false a b = b
 
--- an MO at `at`: at most 256 modules (2); no name seen before, and none ALL-UNNAMED (3)
-unfoldable pub admitAt : List ℕ → List ℕ → ℕ → List ℕ → Verdict
-admitAt s starts at b =
-    pickVerdict (leb 256 (length starts)) (Stop (TooLarge at))
-    (pickVerdict (sameBytes (moduleName b) allUnnamed || memName (moduleName b) (map (nameAt s) starts)) (Stop (Repeated at))
+-- an MO at `at`: at most 256 modules (2); no name seen before in the same place, and none ALL-UNNAMED (3)
+unfoldable pub admitAt : List ℕ → Passed → ℕ → List ℕ → Verdict
+admitAt s p at b =
+    pickVerdict (leb 256 (length (p .starts))) (Stop (TooLarge at))
+    (pickVerdict (sameBytes (moduleName b) allUnnamed || memName (moduleName b) (map (nameAt s) (p .here))) (Stop (Repeated at))
     Start)
 
+-- a PL at `at`: at most eight places (2)
+unfoldable pub enterAt : Passed → ℕ → Verdict
+enterAt p at = pickVerdict (leb 8 (p .places)) (Stop (TooLarge at)) Enter
+
+-- how many places there are with that one; a PL at the front begins the first
+unfoldable pub placesAt : ℕ → ℕ → ℕ
+placesAt n at = cond (ltb 0 at) (n + 1) n
+
 -- a well-formed record at `at`
-unfoldable pub passAt : List ℕ → List ℕ → ℕ → Kind → List ℕ → Verdict
-passAt s starts at Module b = admitAt s starts at b
-passAt s starts at Requires b = Pass
-passAt s starts at Exports b = Pass
-passAt s starts at Opens b = Pass
-passAt s starts at Uses b = Pass
-passAt s starts at Provides b = Pass
-passAt s starts at Package b = Pass
-passAt s starts at MainClass b = Main
-passAt s starts at Root b = Pass
-passAt s starts at LimitModules b = Pass
-passAt s starts at AddReads b = Pass
-passAt s starts at AddExports b = Pass
-passAt s starts at AddOpens b = Pass
-passAt s starts at Other b = Pass
+unfoldable pub passAt : List ℕ → Passed → ℕ → Kind → List ℕ → Verdict
+passAt s p at Module b = admitAt s p at b
+passAt s p at Requires b = Pass
+passAt s p at Exports b = Pass
+passAt s p at Opens b = Pass
+passAt s p at Uses b = Pass
+passAt s p at Provides b = Pass
+passAt s p at Package b = Pass
+passAt s p at MainClass b = Main
+passAt s p at Place b = enterAt p at
+passAt s p at Root b = Pass
+passAt s p at LimitModules b = Pass
+passAt s p at AddReads b = Pass
+passAt s p at AddExports b = Pass
+passAt s p at AddOpens b = Pass
+passAt s p at Other b = Pass
 
 -- the record at `at`, of kind k and body b
-unfoldable pub judgeAt : List ℕ → List ℕ → Bool → ℕ → Kind → List ℕ → Verdict
-judgeAt s starts main at k b =
-    pickVerdict (isPlaced (length starts) main k && isBody k b) (passAt s starts at k b) (Stop (Malformed Set at))
+unfoldable pub judgeAt : List ℕ → Passed → ℕ → Kind → List ℕ → Verdict
+judgeAt s p at k b =
+    pickVerdict (isPlaced (length (p .here)) (p .main) k && isBody k b) (passAt s p at k b) (Stop (Malformed Set at))
 
 -- the table of a set's modules: where each starts, then the set's length, then zeros
 unfoldable pub tableOf : List ℕ → ℕ → List ℕ
@@ -97,46 +123,52 @@ abbrev pub pickChecked : Bool → Checked → Checked → Checked
 pickChecked true a b = a
 pickChecked false a b = b
 
+-- the records so far and one more: an MO at `at`, an MC, and a PL at `at`
+abbrev pub withModule : Passed → ℕ → Passed
+withModule p at = record { starts = p .starts ++ (at ∷ []); here = p .here ++ (at ∷ []); places = p .places; main = false }
+
+abbrev pub withMain : Passed → Passed
+withMain p = record { starts = p .starts; here = p .here; places = p .places; main = true }
+
+abbrev pub withPlace : Passed → ℕ → Passed
+withPlace p at = record { starts = p .starts; here = []; places = placesAt (p .places) at; main = p .main }
+
 unfoldable pub goOn : Verdict → Passed → ℕ → (Passed → Checked) → Checked
 goOn (Stop e) p at f = refused e
-goOn Start p at f = f (record { starts = p .starts ++ (at ∷ []); main = false })
-goOn Main p at f = f (record { starts = p .starts; main = true })
+goOn Start p at f = f (withModule p at)
+goOn Main p at f = f (withMain p)
+goOn Enter p at f = f (withPlace p at)
 goOn Pass p at f = f p
 
 -- the records from `at` on
 unfoldable pub checkFrom : List ℕ → Passed → ℕ → List (List ℕ) → Checked
 checkFrom s p at [] = pickChecked (eqb at (length s)) (accepted (p .starts) (length s)) (refused (Malformed Set at))
 checkFrom s p at (r ∷ rs) =
-    goOn (judgeAt s (p .starts) (p .main) at (setKind (markOf r)) (bodyOf r)) p at (λ p′. checkFrom s p′ (at + length r) rs)
+    goOn (judgeAt s p at (setKind (markOf r)) (bodyOf r)) p at (λ p′. checkFrom s p′ (at + length r) rs)
 
 -- the set: its length first (2), then its records
 unfoldable pub checkSet : List ℕ → Checked
-checkSet s = pickChecked (ltb 65535 (length s)) (refused (TooLarge 0)) (checkFrom s (record { starts = []; main = false }) 0 (records s))
+checkSet s = pickChecked (ltb 65535 (length s)) (refused (TooLarge 0)) (checkFrom s noneYet 0 (records s))
 
--- ---- module blocks: MO and the records up to the next MO
+-- ---- module blocks: MO and the records up to the next MO or PL; PL belongs to no module
 
--- the bytes of the records up to the next MO
-unfoldable pub upToModule : List (List ℕ) → List ℕ
-upToModule [] = []
-upToModule (r ∷ rs) = cond (isOf Module r) [] (r ++ upToModule rs)
+-- the bytes of the records up to the next MO or PL
+unfoldable pub upToNext : List (List ℕ) → List ℕ
+upToNext [] = []
+upToNext (r ∷ rs) = cond (isOf Module r || isOf Place r) [] (r ++ upToNext rs)
 
 unfoldable pub blocksOf : List (List ℕ) → List (List ℕ)
 blocksOf [] = []
-blocksOf (r ∷ rs) = cond (isOf Module r) ((r ++ upToModule rs) ∷ blocksOf rs) (blocksOf rs)
+blocksOf (r ∷ rs) = cond (isOf Module r) ((r ++ upToNext rs) ∷ blocksOf rs) (blocksOf rs)
 
 -- the module blocks of a set
 unfoldable pub blocks : List ℕ → List (List ℕ)
 blocks s = blocksOf (records s)
 
--- the part of s that the table gives for module i
+-- the part of s that the table gives for module i: its block, and any PL behind it
 unfoldable pub blockAt : List ℕ → List ℕ → ℕ → List ℕ
 blockAt s starts i = take (getD starts (i + 1) 0 - getD starts i 0) (drop (getD starts i 0) s)
 
 -- the modules of a set
 unfoldable pub modules : List ℕ → List Descriptor
 modules s = map descriptorOf (blocks s)
-
--- no name stands twice
-unfoldable pub distinct : List (List ℕ) → Bool
-distinct [] = true
-distinct (n ∷ l) = not (memName n l) && distinct l

@@ -1,4 +1,4 @@
-// What the block of a module says: MO and the records up to the next MO.
+// What the block of a module says: MO and the records up to the next MO or PL.
 ghost use mathlib.Core.Path.{_≡_};
 ghost use mathlib.Core.List.{map};
 ghost use Rattle.records.specs.Name.{memName, nameOf};

@@ -13,9 +13,9 @@ pub enum Input {
 pub enum ModuleError {
     // A record that is not well-formed: of which input, and where.
     Malformed(Input, usize),
-    // Too long, or the 257th module, at this offset.
+    // Too long, or the 257th module or the PL of a ninth place, at this offset.
     TooLarge(usize),
-    // An MO whose name was seen before, or is ALL-UNNAMED.
+    // An MO whose name was seen before in its place, or is ALL-UNNAMED.
     Repeated(usize),
     // The bytes that the output needs.
     OutputTooShort(usize),

@@ -3,7 +3,7 @@ ghost use mathlib.Core.Path.{_≡_};
 ghost use mathlib.Core.List.{map};
 ghost use lib.ListN.{take};
 ghost use Rattle.records.specs.Set.{nameAt};
-ghost use Rattle.records.specs.Finder.{findName};
+ghost use Rattle.records.specs.Finder.{findName, isAt};
 use crate::bytes::be16;
 use crate::bytes::part;
 use crate::bytes::same;
@@ -41,4 +41,14 @@ pub fn find(set: &[u8], starts: &[usize], count: usize, name: &[u8]) -> Found
         i += 1;
     }
     Found::Nothing
+}
+
+// Whether what is found is position i.
+pub fn is_at(found: Found, i: usize) -> bool
+    ensures { λ r. ⌜ r ≡ isAt found i ⌝ }
+{
+    match found {
+        Found::At(j) => i == j,
+        Found::Nothing => false,
+    }
 }

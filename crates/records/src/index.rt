@@ -4,15 +4,16 @@
 ghost use mathlib.Core.Path.{_≡_};
 ghost use mathlib.Core.List.{[], map};
 ghost use Prim.Native.Nat.{_+_, _≤_, _<_};
-ghost use lib.ListN.{length, take};
+ghost use lib.ListN.{length, getD, take};
 ghost use Rattle.records.specs.Set.{nameAt};
-ghost use Rattle.records.specs.Finder.{findName, pickFound};
+ghost use Rattle.records.specs.Finder.{findName, pickFound, isFirst};
 ghost use Rattle.records.specs.Index.{wordAt, mixed, chunkAt, shortHash, longHash, hashOf, numberOf, Indexed};
 ghost use Rattle.records.specs.declared.finder.Found.the-variants.{At};
 use crate::bytes::byte;
 use crate::bytes::head;
 use crate::bytes::same;
 use crate::finder::Found;
+use crate::finder::is_at;
 use crate::finder::name_at;
 
 // The byte as a wider number.
@@ -154,6 +155,23 @@ pub fn find_in(set: &[u8], starts: &[usize], count: usize, index: &[u16], name: 
         k = index[1024 + i] as usize;
     }
     found
+}
+
+// Whether the module at position i is the first of its name. It is where no module before it has its number.
+pub fn is_first(set: &[u8], starts: &[usize], count: usize, index: &[u16], i: usize) -> bool
+    requires { ⌜ count ≤ 256 ⌝ }
+    requires { ⌜ count ≤ length (now starts) ⌝ }
+    requires { ⌜ Indexed (map (nameAt (now set)) (take count (now starts))) (now index) ⌝ }
+    requires { ⌜ i < count ⌝ }
+    ensures { λ r. ⌜ r ≡ isFirst (map (nameAt (now (set .entry))) (take count (now (starts .entry)))) (nameAt (now (set .entry)) (getD (now (starts .entry)) i 0)) i ⌝ }
+{
+    if index[1024 + i] == 0 {
+        return true;
+    }
+    is_at(
+        find_in(set, starts, count, index, name_at(set, starts[i])),
+        i,
+    )
 }
 
 // An index of all of them. It is empty before.

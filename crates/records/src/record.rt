@@ -48,7 +48,7 @@ pub enum Next {
     Nothing,
 }
 
-// The kinds of record. A set has the first eight, a request the next five.
+// The kinds of record. A set has the first nine, a request the next five.
 pub enum Kind {
     Module,
     Requires,
@@ -58,6 +58,7 @@ pub enum Kind {
     Provides,
     Package,
     MainClass,
+    Place,
     Root,
     LimitModules,
     AddReads,
@@ -135,6 +136,7 @@ impl Kind {
             Kind::Provides => 0x5056,
             Kind::Package => 0x504B,
             Kind::MainClass => 0x4D43,
+            Kind::Place => 0x504C,
             Kind::Root => 0x5254,
             Kind::LimitModules => 0x4C4D,
             Kind::AddReads => 0x4152,
@@ -158,6 +160,7 @@ pub fn set_kind(mark: usize) -> Kind
         0x5056 => Kind::Provides,
         0x504B => Kind::Package,
         0x4D43 => Kind::MainClass,
+        0x504C => Kind::Place,
         _ => Kind::Other,
     }
 }
@@ -227,6 +230,7 @@ pub fn is_body(kind: Kind, b: &[u8]) -> bool
         Kind::Provides => is_name_list(b),
         Kind::Package => is_names(b, 1),
         Kind::MainClass => is_names(b, 1),
+        Kind::Place => is_names(b, 0),
         Kind::Root => is_names(b, 1),
         Kind::LimitModules => is_list(b),
         Kind::AddReads => is_names(b, 2),

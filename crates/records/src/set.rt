@@ -1,11 +1,11 @@
 // A set of modules: its check, and the block of each module.
 ghost use mathlib.Core.Path.{_≡_};
-ghost use Prim.Native.Nat.{_≤_};
+ghost use Prim.Native.Nat.{_+_, _-_, _≤_, _<_};
 ghost use mathlib.Core.List.{map};
 ghost use lib.ListN.{length, getD, take, drop};
 ghost use Rattle.records.specs.Record.{setKind};
 ghost use Rattle.records.specs.Index.{Indexed};
-ghost use Rattle.records.specs.Set.{nameAt, isPlaced, admitAt, passAt, judgeAt, refused, checkSet, blockAt};
+ghost use Rattle.records.specs.Set.{nameAt, hereOf, passedOf, isPlaced, admitAt, passAt, judgeAt, refused, checkSet, blockAt};
 use crate::bytes::part;
 use crate::bytes::same;
 use crate::bytes::tail;
@@ -29,7 +29,18 @@ pub enum Verdict {
     Start,
     // The module has its main class.
     Main,
+    // A place starts here.
+    Enter,
     Pass,
+}
+
+// The records so far: how many modules there are, and how many of them stand before the present place; how many places, the first
+// being there before its PL; and whether the last module has its main class.
+pub struct Seen {
+    pub count: usize,
+    pub first: usize,
+    pub places: usize,
+    pub main: bool,
 }
 
 // How many modules a set has, or why it is refused.
@@ -50,6 +61,7 @@ fn is_placed(count: usize, main: bool, kind: Kind) -> bool
 {
     match kind {
         Kind::Module => true,
+        Kind::Place => true,
         Kind::MainClass => {
             if main {
                 return false;
@@ -66,18 +78,35 @@ fn is_placed(count: usize, main: bool, kind: Kind) -> bool
     }
 }
 
-fn admit(
-    set: &[u8],
-    starts: &[usize],
-    count: usize,
-    index: &[u16],
-    at: usize,
-    body: &[u8],
-) -> Verdict
-    requires { ⌜ count ≤ length (now starts) ⌝ }
-    requires { ⌜ Indexed (map (nameAt (now set)) (take count (now starts))) (now index) ⌝ }
-    ensures { λ r. ⌜ r ≡ admitAt (now (set .entry)) (take count (now (starts .entry))) at (now (body .entry)) ⌝ }
+// The entries of a table from number `first` on.
+fn later(starts: &[usize], first: usize) -> &[usize]
+    ensures { λ r. ⌜ now r ≡ drop first (now (starts .entry)) ⌝ }
 {
+    if starts.len() < first {
+        return &starts[..0];
+    }
+    &starts[first..]
+}
+
+// Adds the next module of the present place to the index, which has those before it.
+fn add_here(set: &[u8], starts: &[usize], index: &mut [u16], seen: Seen)
+    requires { ⌜ seen .first ≤ seen .count ⌝ }
+    requires { ⌜ seen .count < 256 ⌝ }
+    requires { ⌜ seen .count < length (now starts) ⌝ }
+    requires { ⌜ Indexed (map (nameAt (now set)) (hereOf (now starts) seen)) (now index) ⌝ }
+    ensures { λ _. ⌜ Indexed (map (nameAt (now (set .entry))) (take (seen .count - seen .first + 1) (drop (seen .first) (now (starts .entry))))) (now (index .exit)) ⌝ }
+{
+    let first = seen.first;
+    add(set, later(starts, first), index, seen.count - first);
+}
+
+fn admit(set: &[u8], starts: &[usize], seen: Seen, index: &[u16], at: usize, body: &[u8]) -> Verdict
+    requires { ⌜ seen .first ≤ seen .count ⌝ }
+    requires { ⌜ seen .count ≤ length (now starts) ⌝ }
+    requires { ⌜ Indexed (map (nameAt (now set)) (hereOf (now starts) seen)) (now index) ⌝ }
+    ensures { λ r. ⌜ r ≡ admitAt (now (set .entry)) (passedOf (now (starts .entry)) seen) at (now (body .entry)) ⌝ }
+{
+    let count = seen.count;
     if 256 <= count {
         return Verdict::Stop(ModuleError::TooLarge(at));
     }
@@ -85,7 +114,8 @@ fn admit(
     if same(name, b"ALL-UNNAMED") {
         return Verdict::Stop(ModuleError::Repeated(at));
     }
-    match find_in(set, starts, count, index, name) {
+    let first = seen.first;
+    match find_in(set, later(starts, first), count - first, index, name) {
         Found::At(_) => Verdict::Stop(ModuleError::Repeated(at)),
         Found::Nothing => Verdict::Start,
     }
@@ -94,19 +124,26 @@ fn admit(
 fn pass(
     set: &[u8],
     starts: &[usize],
-    count: usize,
+    seen: Seen,
     index: &[u16],
     at: usize,
     kind: Kind,
     body: &[u8],
 ) -> Verdict
-    requires { ⌜ count ≤ length (now starts) ⌝ }
-    requires { ⌜ Indexed (map (nameAt (now set)) (take count (now starts))) (now index) ⌝ }
-    ensures { λ r. ⌜ r ≡ passAt (now (set .entry)) (take count (now (starts .entry))) at kind (now (body .entry)) ⌝ }
+    requires { ⌜ seen .first ≤ seen .count ⌝ }
+    requires { ⌜ seen .count ≤ length (now starts) ⌝ }
+    requires { ⌜ Indexed (map (nameAt (now set)) (hereOf (now starts) seen)) (now index) ⌝ }
+    ensures { λ r. ⌜ r ≡ passAt (now (set .entry)) (passedOf (now (starts .entry)) seen) at kind (now (body .entry)) ⌝ }
 {
     match kind {
-        Kind::Module => admit(set, starts, count, index, at, body),
+        Kind::Module => admit(set, starts, seen, index, at, body),
         Kind::MainClass => Verdict::Main,
+        Kind::Place => {
+            if 8 <= seen.places {
+                return Verdict::Stop(ModuleError::TooLarge(at));
+            }
+            Verdict::Enter
+        }
         _ => Verdict::Pass,
     }
 }
@@ -114,23 +151,23 @@ fn pass(
 fn judge(
     set: &[u8],
     starts: &[usize],
-    count: usize,
+    seen: Seen,
     index: &[u16],
-    main: bool,
     at: usize,
     mark: usize,
     start: usize,
     len: usize,
 ) -> Verdict
-    requires { ⌜ count ≤ length (now starts) ⌝ }
-    requires { ⌜ Indexed (map (nameAt (now set)) (take count (now starts))) (now index) ⌝ }
-    ensures { λ r. ⌜ r ≡ judgeAt (now (set .entry)) (take count (now (starts .entry))) main at (setKind mark) (take len (drop start (now (set .entry)))) ⌝ }
+    requires { ⌜ seen .first ≤ seen .count ⌝ }
+    requires { ⌜ seen .count ≤ length (now starts) ⌝ }
+    requires { ⌜ Indexed (map (nameAt (now set)) (hereOf (now starts) seen)) (now index) ⌝ }
+    ensures { λ r. ⌜ r ≡ judgeAt (now (set .entry)) (passedOf (now (starts .entry)) seen) at (setKind mark) (take len (drop start (now (set .entry)))) ⌝ }
 {
     let kind = set_kind(mark);
     let body = part(set, start, len);
-    if is_placed(count, main, kind) {
+    if is_placed(seen.count - seen.first, seen.main, kind) {
         if is_body(kind, body) {
-            return pass(set, starts, count, index, at, kind, body);
+            return pass(set, starts, seen, index, at, kind, body);
         }
     }
     Verdict::Stop(ModuleError::Malformed(Input::Set, at))
@@ -156,8 +193,12 @@ pub fn check_set(set: &[u8]) -> Checked
     let mut c = Cursor { at: 0 };
     let mut starts = [0usize; 257];
     let mut index = [0u16; 1280];
-    let mut count: usize = 0;
-    let mut main = false;
+    let mut seen = Seen {
+        count: 0,
+        first: 0,
+        places: 1,
+        main: false,
+    };
     loop {
         let at = c.at;
         match c.step(set) {
@@ -167,18 +208,26 @@ pub fn check_set(set: &[u8]) -> Checked
                 len,
                 next,
             } => {
-                match judge(set, &starts, count, &index, main, at, mark, start, len) {
+                match judge(set, &starts, seen, &index, at, mark, start, len) {
                     Verdict::Stop(e) => {
                         return refuse(e);
                     }
                     Verdict::Start => {
+                        let count = seen.count;
                         starts[count] = at;
-                        add(set, &starts, &mut index, count);
-                        count += 1;
-                        main = false;
+                        add_here(set, &starts, &mut index, seen);
+                        seen.count = count + 1;
+                        seen.main = false;
                     }
                     Verdict::Main => {
-                        main = true;
+                        seen.main = true;
+                    }
+                    Verdict::Enter => {
+                        index = [0u16; 1280];
+                        seen.first = seen.count;
+                        if 0 < at {
+                            seen.places += 1;
+                        }
                     }
                     Verdict::Pass => {}
                 }
@@ -188,6 +237,7 @@ pub fn check_set(set: &[u8]) -> Checked
                 return refuse(ModuleError::Malformed(Input::Set, at));
             }
             Step::End => {
+                let count = seen.count;
                 starts[count] = set.len();
                 return Checked {
                     answer: SetAnswer::Modules(count),
@@ -208,7 +258,7 @@ pub fn entry(starts: &[usize], i: usize) -> usize
     starts[i]
 }
 
-// The block of module i, by the table of its set.
+// The part of the set from the start of module i to the next entry of the table: its block, and any PL behind it.
 pub fn block<'a>(set: &'a [u8], starts: &[usize], i: usize) -> &'a [u8]
     ensures { λ r. ⌜ now r ≡ blockAt (now (set .entry)) (now (starts .entry)) i ⌝ }
 {

@@ -14,7 +14,7 @@ use Rattle.records.specs.Name.{javaBase, memName, nameOf}
 use Rattle.records.specs.Record.{records, bodies, bodyOf, isOf, nthIn, nthOf, pickNext}
 use Rattle.records.specs.Descriptor.{Requirement, Descriptor, requirementOf, descriptorOf}
 use Rattle.records.specs.Request.{Request, requestOf, isPermitted, checkInputs}
-use Rattle.records.specs.Set.{blocks, blockAt, modules, checkSet}
+use Rattle.records.specs.Set.{blockAt, modules, checkSet}
 use Rattle.records.specs.declared.record.Next.{Next}
 use Rattle.records.specs.declared.record.Next.the-variants.{Body, Nothing}
 use Rattle.records.specs.declared.record.Kind.{Kind}
@@ -30,22 +30,23 @@ use Rattle.resolution.specs.Lists.{Name, Mem, keep}
 use Rattle.resolution.specs.Loop.{Step, stop, fail, go, Result, failed, done, after, loop}
 use Rattle.resolution.specs.Owner.{least, shared}
 use Rattle.resolution.specs.Positions.{moduleAt}
-use Rattle.resolution.specs.Resolution.{Enqueued, Item, Place, Refusal, State, asRequirement, base, baseMet, baseQueue, choose, enqueue, enqueueNext, enqueued, find, found, handled, hasModule, indexOf, isProvider, javaBaseNotFound, missing, moduleNotFound, passed, provider, providers, queueFuel, ran, ranOut, required, root, round, roundOn, rounds, runQueue, seeds, splitPackage, started, taken, tested, turn}
+use Rattle.resolution.specs.Resolution.{Enqueued, Item, QueuedBy, Refusal, State, asRequirement, base, baseMet, baseQueue, choose, enqueue, enqueueNext, enqueued, find, found, handled, hasModule, indexOf, isProvider, javaBaseNotFound, observable, missing, moduleNotFound, passed, provider, providers, queueFuel, ran, ranOut, required, root, round, roundOn, rounds, runQueue, seeds, splitPackage, started, taken, tested, turn}
 use Rattle.resolution.specs.Resolution as Resolution
-use Rattle.resolution.specs.Resolve.{bodyStart, startIn, absentOf, errorOf, refused, told, answered, resolve}
+use Rattle.resolution.specs.Resolve.{bodyStart, startIn, absentOf, errorOf, refused, told, answered, resolve, recordsAt}
 use Rattle.resolution.specs.Absent.{partOf, absentIn, absentName}
 use Rattle.resolution.specs.declared.resolve.Outcome.the-variants.{Refused}
 use Rattle.resolution.proofs.Enqueue.{item}
 use Rattle.resolution.proofs.Find.{find-mem, has-find}
+use Rattle.resolution.proofs.Observable.{observable-mem}
 use Rattle.resolution.proofs.Lists.{any-in, keep-out, map-out}
 use Rattle.resolution.proofs.Positions.{index-in, find-at}
-use Rattle.resolution.proofs.Sets.{set-length}
+use Rattle.resolution.proofs.Sets.{set-length, module-block}
 use Rattle.records.proofs.request.Taken.{inputs-taken}
 
--- ---- the record of a place has the name
+-- ---- the record that queued a name has it
 
 -- the name stands in the record: none where it is java.base in front; a provider is a module of the set
-abbrev pub Stands : List Descriptor → Request → Name → Place → Type 0
+abbrev pub Stands : List Descriptor → Request → Name → QueuedBy → Type 0
 Stands s rq n base = ⊥
 Stands s rq n (root i) = (i < length (rq .roots)) × (getD (rq .roots) i [] ≡ n)
 Stands s rq n (required p j) = (p < length s) × (j < length (moduleAt s p .requires)) × (getD (moduleAt s p .requires) j (requirementOf []) .name ≡ n)
@@ -53,7 +54,7 @@ Stands s rq n (provider i) = hasModule s n ≡ true
 
 -- of what is queued
 abbrev pub Queued : List Descriptor → Request → List Item → Type 0
-Queued s rq q = (e : Item) → Mem e q → (e .name ≡ javaBase) ⊎ Stands s rq (e .name) (e .place)
+Queued s rq q = (e : Item) → Mem e q → (e .name ≡ javaBase) ⊎ Stands s rq (e .name) (e .by)
 
 -- of a refusal 5: the record has the name, and no module has it
 abbrev pub Fair : List Descriptor → Request → Refusal → Type 0
@@ -78,16 +79,16 @@ FairResult s rq (done st) = Queued s rq (st .queue)
 queued-none : (s : List Descriptor) (rq : Request) → Queued s rq []
 queued-none s rq e m = absurd (List·Memᴰ·not-nil m)
 
-queued-add : (s : List Descriptor) (rq : Request) (q : List Item) (n : Name) (p : Place) → (n ≡ javaBase) ⊎ Stands s rq n p → Queued s rq q → Queued s rq (q ++ (item n p ∷ []))
+queued-add : (s : List Descriptor) (rq : Request) (q : List Item) (n : Name) (p : QueuedBy) → (n ≡ javaBase) ⊎ Stands s rq n p → Queued s rq q → Queued s rq (q ++ (item n p ∷ []))
 queued-add s rq q n p h a e m = ⊎-elim (λ k. a e k)
-    (λ k. subst (λ (z : Item). (z .name ≡ javaBase) ⊎ Stands s rq (z .name) (z .place)) (sym (List·Memᴰ·eq-of-singleton k)) h)
+    (λ k. subst (λ (z : Item). (z .name ≡ javaBase) ⊎ Stands s rq (z .name) (z .by)) (sym (List·Memᴰ·eq-of-singleton k)) h)
     (List·Memᴰ·append-cases q m)
 
-module _ (s : List Descriptor) (rq : Request) (inRound : Bool) (placeOf : ℕ → Place) where
-  -- queueing: each requirement stands at its place
+module _ (s : List Descriptor) (rq : Request) (inRound : Bool) (byOf : ℕ → QueuedBy) where
+  -- queueing: each requirement stands in the record that queues it
   enqueue-fair : (rs : List Requirement) (j : ℕ) (met : List Name) (q : List Item)
-      → ((i k : ℕ) → i < length rs → k ≡ j + i → Stands s rq (getD rs i (requirementOf []) .name) (placeOf k))
-      → Queued s rq q → FairEnqueued s rq (enqueue inRound s placeOf rs j met q)
+      → ((i k : ℕ) → i < length rs → k ≡ j + i → Stands s rq (getD rs i (requirementOf []) .name) (byOf k))
+      → Queued s rq q → FairEnqueued s rq (enqueue inRound s byOf rs j met q)
   unfolding enqueue
   enqueue-fair [] j met q each a = a
   enqueue-fair (r ∷ rs) j met q each a =
@@ -95,18 +96,18 @@ module _ (s : List Descriptor) (rq : Request) (inRound : Bool) (placeOf : ℕ �
       (λ mt w b. enqueue-fair rs (suc j) mt w (λ i k l e. each (suc i) k (omega arith) (omega arith)) b)
     where
       more : List Name → List Item → Enqueued
-      more mt w = enqueue inRound s placeOf rs (suc j) mt w
+      more mt w = enqueue inRound s byOf rs (suc j) mt w
 
-      here : Stands s rq (r .name) (placeOf j)
+      here : Stands s rq (r .name) (byOf j)
       here = each 0 j (omega arith) (omega arith)
 
       turned : (b c d l : Bool) → hasModule s (r .name) ≡ c → ((mt : List Name) (w : List Item) → Queued s rq w → FairEnqueued s rq (more mt w))
-          → FairEnqueued s rq (enqueueNext (choose l b c d) (r .name) (placeOf j) met q more)
+          → FairEnqueued s rq (enqueueNext (choose l b c d) (r .name) (byOf j) met q more)
       turned true c d l u below = below met q a
-      turned false true d l u below = below (r .name ∷ met) (q ++ (item (r .name) (placeOf j) ∷ [])) (queued-add s rq q (r .name) (placeOf j) (inr here) a)
+      turned false true d l u below = below (r .name ∷ met) (q ++ (item (r .name) (byOf j) ∷ [])) (queued-add s rq q (r .name) (byOf j) (inr here) a)
       turned false false true l u below = below met q a
       turned false false false true u below = (here, u)
-      turned false false false false u below = below (r .name ∷ met) (q ++ (item (r .name) (placeOf j) ∷ [])) (queued-add s rq q (r .name) (placeOf j) (inr here) a)
+      turned false false false false u below = below (r .name ∷ met) (q ++ (item (r .name) (byOf j) ∷ [])) (queued-add s rq q (r .name) (byOf j) (inr here) a)
 
 -- ---- a turn of the queue
 
@@ -136,8 +137,8 @@ module _ (s : List Descriptor) (rq : Request) (inRound : Bool) where
   tested-fair ms m met q f a none = handled-fair (ms ++ (m ∷ [])) (enqueue inRound s (required (indexOf (m .name) s)) (m .requires) 0 met q)
       (enqueue-fair s rq inRound (required (indexOf (m .name) s)) (m .requires) 0 met q (requires-stand m f) a)
 
-  absent-fair : (e : Item) → (e .name ≡ javaBase) ⊎ Stands s rq (e .name) (e .place) → find (e .name) s ≡ none
-      → (b : Bool) → sameBytes (e .name) javaBase ≡ b → Fair s rq (cond b javaBaseNotFound (moduleNotFound (e .name) (e .place)))
+  absent-fair : (e : Item) → (e .name ≡ javaBase) ⊎ Stands s rq (e .name) (e .by) → find (e .name) s ≡ none
+      → (b : Bool) → sameBytes (e .name) javaBase ≡ b → Fair s rq (cond b javaBaseNotFound (moduleNotFound (e .name) (e .by)))
   absent-fair e h f true w = tt
   absent-fair e h f false w = (
     ⊎-elim (λ (k : e .name ≡ javaBase). true≠false (subst (λ (z : Name). sameBytes z javaBase ≡ true) (sym k) (same-refl javaBase)) w) (λ k. k) h,
@@ -194,9 +195,9 @@ module _ (s : List Descriptor) (rq : Request) where
       → Stands s rq (getD (providers s rq ms) i (requirementOf []) .name) (provider k)
   unfolding providers asRequirement hasModule
   providers-stand ms i k l e =
-      let x = map-out (λ (m : Descriptor). asRequirement (m .name)) (keep (isProvider ms rq) s) (get-mem (providers s rq ms) i l) in
-      let y = keep-out (isProvider ms rq) s (x .1) in
-      subst (λ (z : Requirement). hasModule s (z .name) ≡ true) (sym (x .2)) (any-in (λ (m : Descriptor). sameBytes (m .name) (x .0 .name)) (y .0) (same-refl (x .0 .name)))
+      let x = map-out (λ (m : Descriptor). asRequirement (m .name)) (keep (isProvider ms rq) (observable s)) (get-mem (providers s rq ms) i l) in
+      let y = keep-out (isProvider ms rq) (observable s) (x .1) in
+      subst (λ (z : Requirement). hasModule s (z .name) ≡ true) (sym (x .2)) (any-in (λ (m : Descriptor). sameBytes (m .name) (x .0 .name)) (observable-mem s (x .0) (y .0)) (same-refl (x .0 .name)))
 
   ran-fair : (r : Result State Refusal) → FairResult s rq r → FairStep s rq (ran r)
   unfolding ran
@@ -244,8 +245,8 @@ module _ (s : List Descriptor) (rq : Request) where
   started-fair (missing n p) h = h
   started-fair (enqueued met q) h = rounds-fair (runQueue false s rq (record { resolved = []; met = met; queue = q })) (run-fair false (record { resolved = []; met = met; queue = q }) h)
 
-  -- the name of refusal 5 stands in the record of its place, and is not observable
-  pub absent-stands : (n : Name) (p : Place) → Resolution.resolve s rq ≡ failed (moduleNotFound n p) → Stands s rq n p × (hasModule s n ≡ false)
+  -- the name of refusal 5 stands in the record that queued it, and is not observable
+  pub absent-stands : (n : Name) (p : QueuedBy) → Resolution.resolve s rq ≡ failed (moduleNotFound n p) → Stands s rq n p × (hasModule s n ≡ false)
   unfolding Resolution.resolve
   absent-stands n p e = subst (FairResult s rq) e (started-fair (seeds s rq) seeds-fair)
 
@@ -346,26 +347,22 @@ requirement-at : (b : List ℕ) (j : ℕ) → getD (descriptorOf b .requires) j 
 unfolding descriptorOf requirementOf
 requirement-at b j = ap (λ (r : Requirement). r .name) (List·getD-map requirementOf (bodies Kind.Requires b) j [])
 
-module-at : (s : List ℕ) (p : ℕ) → moduleAt (modules s) p ≡ descriptorOf (getD (blocks s) p [])
-unfolding modules
-module-at s p = List·getD-map descriptorOf (blocks s) p []
-
 required-bytes : (s : List ℕ) (m : ℕ) (t : List ℕ) → GoodSet s m t → checkSet s .starts ≡ t → (p j : ℕ) (n : Name) → p < length (modules s)
     → getD (moduleAt (modules s) p .requires) j (requirementOf []) .name ≡ n
-    → take (length n) (drop (bodyStart (nthIn Kind.Requires j (startIn s p) (records (getD (blocks s) p []))) + 3) s) ≡ n
-unfolding startIn
+    → take (length n) (drop (bodyStart (nthIn Kind.Requires j (startIn s p) (recordsAt s p)) + 3) s) ≡ n
+unfolding startIn recordsAt
 required-bytes s m t g et p j n l e =
-    let b : List ℕ = getD (blocks s) p [] in
-    let at : b ≡ take (getD t (p + 1) 0 - getD t p 0) (drop (getD t p 0) s) = sym (g .block-is p (omega (arith, set-length s m t g))) ∙ (unfold blockAt in refl) in
+    let b : List ℕ = blockAt s t p in
+    let at : b ≡ take (getD t (p + 1) 0 - getD t p 0) (drop (getD t p 0) s) = unfold blockAt in refl in
     let x : List ℕ = getD (bodies Kind.Requires b) j [] in
-    let z : nameOf (drop 2 x) ≡ n = sym (requirement-at b j) ∙ ap (λ (d : Descriptor). getD (d .requires) j (requirementOf []) .name) (sym (module-at s p)) ∙ e in
+    let z : nameOf (drop 2 x) ≡ n = sym (requirement-at b j) ∙ ap (λ (d : Descriptor). getD (d .requires) j (requirementOf []) .name) (sym (module-block s m t g p (omega (arith, set-length s m t g)))) ∙ e in
     let w : Prefix n (drop 3 x) = subst (λ (y : List ℕ). Prefix y (drop 3 x)) z (subst (Prefix (nameOf (drop 2 x))) (drop-drop 1 2 x) (name-prefix (drop 2 x))) in
-    prefix-bytes n (drop (bodyStart (nthIn Kind.Requires j (getD (checkSet s .starts) p 0) (records b)) + 3) s)
-    (subst (λ (y : List ℕ). Prefix n (drop (bodyStart (nthIn Kind.Requires j (getD y p 0) (records b)) + 3) s)) (sym et)
+    prefix-bytes n (drop (bodyStart (nthIn Kind.Requires j (getD (checkSet s .starts) p 0) (records (blockAt s (checkSet s .starts) p))) + 3) s)
+    (subst (λ (y : List ℕ). Prefix n (drop (bodyStart (nthIn Kind.Requires j (getD y p 0) (records (blockAt s y p))) + 3) s)) (sym et)
     (body-part Kind.Requires j s b (getD t p 0) (getD t (p + 1) 0 - getD t p 0) at n 3 w))
 
 -- what is known of the name n of refusal 5, queued by the record at p
-pub record AbsentName (s q : List ℕ) (n : Name) (p : Place) : Type 0 where
+pub record AbsentName (s q : List ℕ) (n : Name) (p : QueuedBy) : Type 0 where
   -- the bytes handed back are the name
   pub bytes : absentName s q (resolve s q .outcome) ≡ n
   -- no module of the set has it
@@ -375,20 +372,20 @@ pub record AbsentName (s q : List ℕ) (n : Name) (p : Place) : Type 0 where
   pub not-base : p ≡ base → ⊥
   pub not-provider : (i : ℕ) → p ≡ provider i → ⊥
 
-outcome-is : (s q : List ℕ) (k : ℕ) (n : Name) (p : Place) → checkInputs s q .answer ≡ Modules k → Resolution.resolve (modules s) (requestOf q) ≡ failed (moduleNotFound n p)
+outcome-is : (s q : List ℕ) (k : ℕ) (n : Name) (p : QueuedBy) → checkInputs s q .answer ≡ Modules k → Resolution.resolve (modules s) (requestOf q) ≡ failed (moduleNotFound n p)
     → resolve s q .outcome ≡ Refused (absentOf s q (length n) p)
 unfolding resolve answered told refused errorOf
 outcome-is s q k n p h e =
     ap (λ (a : SetAnswer). answered s q a .outcome) h ∙ ap (λ (r : Result State Refusal). told s q r .outcome) e
 
-pub absent-name-is : (s q : List ℕ) (k : ℕ) (n : Name) (p : Place) → checkInputs s q .answer ≡ Modules k
+pub absent-name-is : (s q : List ℕ) (k : ℕ) (n : Name) (p : QueuedBy) → checkInputs s q .answer ≡ Modules k
     → Resolution.resolve (modules s) (requestOf q) ≡ failed (moduleNotFound n p) → AbsentName s q n p
 absent-name-is s q k n p h e = turned p (absent-stands (modules s) (requestOf q) n p e) (ap (absentName s q) (outcome-is s q k n p h e))
   where
     c : checkSet s ≡ record { answer = Modules k; starts = checkInputs s q .starts }
     c = inputs-taken s q k (checkInputs s q) refl h
 
-    turned : (o : Place) → Stands (modules s) (requestOf q) n o × (hasModule (modules s) n ≡ false)
+    turned : (o : QueuedBy) → Stands (modules s) (requestOf q) n o × (hasModule (modules s) n ≡ false)
         → absentName s q (resolve s q .outcome) ≡ absentName s q (Refused (absentOf s q (length n) o)) → AbsentName s q n o
     turned base w z = absurd (w .0)
     turned (provider i) w z = true≠false (w .0) (w .1)

@@ -13,14 +13,14 @@ use Rattle.records.specs.Bytes.{sameBytes}
 use Rattle.records.specs.Descriptor.{Descriptor, Requirement}
 use Rattle.records.specs.Name.{javaBase, memName}
 use Rattle.records.specs.Request.{Request, isPermitted}
-use Rattle.records.specs.Set.{distinct}
 use Rattle.resolution.specs.Closed.{Accepted, Closed, Member, Smallest}
 use Rattle.resolution.specs.Lists.{Mem, Name, any, keep}
 use Rattle.resolution.specs.Loop.{Result, Step, done, fail, failed, go, stop}
 use Rattle.resolution.specs.Owner.{least, shared}
-use Rattle.resolution.specs.Resolution.{Enqueued, Item, Refusal, State, asRequirement, base, baseMet, baseQueue, enqueue, enqueued, find, found, handled, indexOf, isProvider, missing, names, passed, provider, providers, queueFuel, ran, ranOut, required, resolve, root, round, roundOn, rounds, runQueue, seeds, started, taken, tested, turn}
+use Rattle.resolution.specs.Resolution.{Enqueued, Item, Refusal, State, asRequirement, base, baseMet, baseQueue, enqueue, enqueued, find, found, handled, indexOf, isProvider, missing, observable, passed, provider, providers, queueFuel, ran, ranOut, required, resolve, root, round, roundOn, rounds, runQueue, seeds, started, taken, tested, turn}
 use Rattle.resolution.proofs.Enqueue.{enqueue-all, enqueue-mono, met-new}
-use Rattle.resolution.proofs.Find.{Unique, find-mem, has-find, unique-of}
+use Rattle.resolution.proofs.Find.{find-mem, has-find}
+use Rattle.resolution.proofs.Observable.{observable-found, found-observable}
 use Rattle.resolution.proofs.Lists.{any-in, any-out, keep-in, keep-out, map-in, map-out, memName-in, memName-out}
 use Rattle.resolution.proofs.Loop.{failed≠done, fail≠go, loop-inv, stop≠go}
 use Rattle.resolution.proofs.Queue.{Front, Invariant, enqueue-front, front-add, keeps}
@@ -111,72 +111,71 @@ module _ (s : List Descriptor) (rq : Request) (C : Name → Type 0) (closed : Cl
           (λ h. enqueue-mono false s root (map asRequirement (rq .roots)) 0 (baseMet b) (baseQueue b) met q javaBase e (subst (λ (z : Bool). memName javaBase (baseMet z) ≡ true) (sym h) (met-new javaBase [])))
 
   -- a round
-  module _ (unique : Unique s) where
-    -- a provider that is queued is in C
-    provider-closed : (st : State) → Invariant s rq C st → (r : Requirement) (k : Descriptor) → Mem r (providers s rq (st .resolved))
-        → isPermitted rq (r .name) ≡ true → find (r .name) s ≡ some k → C (r .name)
-    unfolding providers isProvider asRequirement
-    provider-closed st i r k h p f =
-        let x = map-out (λ (m : Descriptor). asRequirement (m .name)) (keep (isProvider (st .resolved) rq) s) h in
-        let m : Descriptor = x .0 in
-        let y = keep-out (isProvider (st .resolved) rq) s (x .1) in
-        let uses : Name → Bool = (λ v. any (λ (u : Descriptor). memName v (u .uses)) (st .resolved)) in
-        let v = any-out uses (m .provides) (and-right (isPermitted rq (m .name)) (any uses (m .provides)) (y .1)) in
-        let u = any-out (λ (w : Descriptor). memName (v .0) (w .uses)) (st .resolved) (v .2) in
-        let su = i .sound (u .0) (u .1) in
-        let name-is : r .name ≡ m .name = ap (λ (z : Requirement). z .name) (x .2) in
-        let known : find (m .name) s ≡ some m = unique m (y .0) in
-        subst C (sym name-is)
-        (closed .provider (u .0 .name) (u .0) (v .0) (m .name) m (i .front .small (u .0 .name) (u .0) (su .2) (su .1) (su .0)) (su .0)
-        (memName-out (v .0) (u .0 .uses) (u .2)) (and-left (isPermitted rq (m .name)) (any uses (m .provides)) (y .1)) known (v .1))
+  -- a provider that is queued is in C
+  provider-closed : (st : State) → Invariant s rq C st → (r : Requirement) (k : Descriptor) → Mem r (providers s rq (st .resolved))
+      → isPermitted rq (r .name) ≡ true → find (r .name) s ≡ some k → C (r .name)
+  unfolding providers isProvider asRequirement
+  provider-closed st i r k h p f =
+      let x = map-out (λ (m : Descriptor). asRequirement (m .name)) (keep (isProvider (st .resolved) rq) (observable s)) h in
+      let m : Descriptor = x .0 in
+      let y = keep-out (isProvider (st .resolved) rq) (observable s) (x .1) in
+      let uses : Name → Bool = (λ v. any (λ (u : Descriptor). memName v (u .uses)) (st .resolved)) in
+      let v = any-out uses (m .provides) (and-right (isPermitted rq (m .name)) (any uses (m .provides)) (y .1)) in
+      let u = any-out (λ (w : Descriptor). memName (v .0) (w .uses)) (st .resolved) (v .2) in
+      let su = i .sound (u .0) (u .1) in
+      let name-is : r .name ≡ m .name = ap (λ (z : Requirement). z .name) (x .2) in
+      let known : find (m .name) s ≡ some m = observable-found s m (y .0) in
+      subst C (sym name-is)
+      (closed .provider (u .0 .name) (u .0) (v .0) (m .name) m (i .front .small (u .0 .name) (u .0) (su .2) (su .1) (su .0)) (su .0)
+      (memName-out (v .0) (u .0 .uses) (u .2)) (and-left (isPermitted rq (m .name)) (any uses (m .provides)) (y .1)) known (v .1))
 
-    round-front : (st : State) → Rest s rq C st → (met : List Name) (q : List Item)
-        → enqueue false s provider (providers s rq (st .resolved)) 0 (st .met) [] ≡ enqueued met q → Front s rq C (st .resolved) met q
-    round-front st i met q e =
-        enqueue-front s rq C (st .resolved) false provider (providers s rq (st .resolved)) 0 (st .met) [] met q (provider-closed st (i .0))
-        (subst (λ (z : List Item). Front s rq C (st .resolved) (st .met) z) (i .1) (i .0 .front)) e
+  round-front : (st : State) → Rest s rq C st → (met : List Name) (q : List Item)
+      → enqueue false s provider (providers s rq (st .resolved)) 0 (st .met) [] ≡ enqueued met q → Front s rq C (st .resolved) met q
+  round-front st i met q e =
+      enqueue-front s rq C (st .resolved) false provider (providers s rq (st .resolved)) 0 (st .met) [] met q (provider-closed st (i .0))
+      (subst (λ (z : List Item). Front s rq C (st .resolved) (st .met) z) (i .1) (i .0 .front)) e
 
-    pub round-start : (st : State) → Rest s rq C st → (met : List Name) (q : List Item)
-        → enqueue false s provider (providers s rq (st .resolved)) 0 (st .met) [] ≡ enqueued met q
-        → Invariant s rq C (record { resolved = st .resolved; met = met; queue = q })
-    round-start st i met q e =
-        let grow : (n : Name) → memName n (st .met) ≡ true → memName n met ≡ true = (λ n h. enqueue-mono false s provider (providers s rq (st .resolved)) 0 (st .met) [] met q n e h) in
-        record {
-          front = round-front st i met q e;
-          sound = λ m h. (i .0 .sound m h .0, i .0 .sound m h .1, grow (m .name) (i .0 .sound m h .2));
-          base = grow javaBase (i .0 .base);
-          roots = λ n h. grow n (i .0 .roots n h);
-          reqs = λ m r a b c. grow (r .name) (i .0 .reqs m r a b c);
-          apart = i .0 .apart;
-        }
+  pub round-start : (st : State) → Rest s rq C st → (met : List Name) (q : List Item)
+      → enqueue false s provider (providers s rq (st .resolved)) 0 (st .met) [] ≡ enqueued met q
+      → Invariant s rq C (record { resolved = st .resolved; met = met; queue = q })
+  round-start st i met q e =
+      let grow : (n : Name) → memName n (st .met) ≡ true → memName n met ≡ true = (λ n h. enqueue-mono false s provider (providers s rq (st .resolved)) 0 (st .met) [] met q n e h) in
+      record {
+        front = round-front st i met q e;
+        sound = λ m h. (i .0 .sound m h .0, i .0 .sound m h .1, grow (m .name) (i .0 .sound m h .2));
+        base = grow javaBase (i .0 .base);
+        roots = λ n h. grow n (i .0 .roots n h);
+        reqs = λ m r a b c. grow (r .name) (i .0 .reqs m r a b c);
+        apart = i .0 .apart;
+      }
 
-    pub round-keeps : (st t : State) → Rest s rq C st → round s rq st ≡ go t → Rest s rq C t
-    unfolding round roundOn ran
-    round-keeps st t i h = turned _ refl h
-      where
-        ended : (st₂ : State) → Invariant s rq C st₂ → (r : Result State Refusal) → runQueue true s rq st₂ ≡ r → ran r ≡ go t → Rest s rq C t
-        ended st₂ j (failed a) e k = fail≠go k
-        ended st₂ j (done u) e k = run-inv true st₂ t j (e ∙ ap done (cc))
+  pub round-keeps : (st t : State) → Rest s rq C st → round s rq st ≡ go t → Rest s rq C t
+  unfolding round roundOn ran
+  round-keeps st t i h = turned _ refl h
+    where
+      ended : (st₂ : State) → Invariant s rq C st₂ → (r : Result State Refusal) → runQueue true s rq st₂ ≡ r → ran r ≡ go t → Rest s rq C t
+      ended st₂ j (failed a) e k = fail≠go k
+      ended st₂ j (done u) e k = run-inv true st₂ t j (e ∙ ap done (cc))
 
-        turned : (r : Enqueued) → enqueue false s provider (providers s rq (st .resolved)) 0 (st .met) [] ≡ r → roundOn s rq (st .resolved) r ≡ go t
-            → Rest s rq C t
-        turned (missing n o) e k = fail≠go k
-        turned (enqueued met []) e k = stop≠go k
-        turned (enqueued met (a ∷ q)) e k = ended _ (round-start st i met (a ∷ q) e) _ refl k
+      turned : (r : Enqueued) → enqueue false s provider (providers s rq (st .resolved)) 0 (st .met) [] ≡ r → roundOn s rq (st .resolved) r ≡ go t
+          → Rest s rq C t
+      turned (missing n o) e k = fail≠go k
+      turned (enqueued met []) e k = stop≠go k
+      turned (enqueued met (a ∷ q)) e k = ended _ (round-start st i met (a ∷ q) e) _ refl k
 
-    -- the end
-    pub resolve-inv : (t : State) → resolve s rq ≡ done t → Rest s rq C t × (round s rq t ≡ stop)
-    unfolding resolve started rounds
-    resolve-inv t h = turned _ refl h
-      where
-        ended : (st : State) → Invariant s rq C st → (r : Result State Refusal) → runQueue false s rq st ≡ r → rounds s rq r ≡ done t
-            → Rest s rq C t × (round s rq t ≡ stop)
-        ended st i (failed a) e k = failed≠done k
-        ended st i (done u) e k = loop-inv (round s rq) ranOut (Rest s rq C) round-keeps (suc (length s)) u t (run-inv false st u i e) k
+  -- the end
+  pub resolve-inv : (t : State) → resolve s rq ≡ done t → Rest s rq C t × (round s rq t ≡ stop)
+  unfolding resolve started rounds
+  resolve-inv t h = turned _ refl h
+    where
+      ended : (st : State) → Invariant s rq C st → (r : Result State Refusal) → runQueue false s rq st ≡ r → rounds s rq r ≡ done t
+          → Rest s rq C t × (round s rq t ≡ stop)
+      ended st i (failed a) e k = failed≠done k
+      ended st i (done u) e k = loop-inv (round s rq) ranOut (Rest s rq C) round-keeps (suc (length s)) u t (run-inv false st u i e) k
 
-        turned : (r : Enqueued) → seeds s rq ≡ r → started s rq r ≡ done t → Rest s rq C t × (round s rq t ≡ stop)
-        turned (missing n o) e k = failed≠done k
-        turned (enqueued met q) e k = ended _ (seeds-inv met q e) _ refl k
+      turned : (r : Enqueued) → seeds s rq ≡ r → started s rq r ≡ done t → Rest s rq C t × (round s rq t ≡ stop)
+      turned (missing n o) e k = failed≠done k
+      turned (enqueued met q) e k = ended _ (seeds-inv met q e) _ refl k
 
 -- ---- demand 3, first half
 
@@ -187,9 +186,9 @@ pub base-permitted : (rq : Request) → isPermitted rq javaBase ≡ true
 unfolding isPermitted
 base-permitted rq = or-left (sameBytes javaBase javaBase) _ (same-refl javaBase)
 
-module _ (s : List Descriptor) (rq : Request) (unique : Unique s) (t : State) (h : resolve s rq ≡ done t) where
+module _ (s : List Descriptor) (rq : Request) (t : State) (h : resolve s rq ≡ done t) where
   fact : Rest s rq (λ n. Unit {0}) t × (round s rq t ≡ stop)
-  fact = resolve-inv s rq (λ n. Unit {0}) (trivial s rq) unique t h
+  fact = resolve-inv s rq (λ n. Unit {0}) (trivial s rq) t h
 
   resolved-of : (met : List Name) (q : List Item) → Front s rq (λ n. Unit {0}) (t .resolved) met q → q ≡ [] → (n : Name) → memName n met ≡ true
       → isPermitted rq n ≡ true → Member (t .resolved) n
@@ -203,7 +202,7 @@ module _ (s : List Descriptor) (rq : Request) (unique : Unique s) (t : State) (h
       let e : find (m .name) s ≡ some m = fact .0 .0 .sound m a .0 in
       let g : find n s ≡ some m = subst (λ (z : Name). find z s ≡ some m) b e in cc
 
-  provider-in : (k : Descriptor) → Mem k s → isProvider (t .resolved) rq k ≡ true → isPermitted rq (k .name) ≡ true → Member (t .resolved) (k .name)
+  provider-in : (k : Descriptor) → Mem k (observable s) → isProvider (t .resolved) rq k ≡ true → isPermitted rq (k .name) ≡ true → Member (t .resolved) (k .name)
   unfolding round roundOn ran providers
   provider-in k a b p = turned _ refl (fact .1)
     where
@@ -221,7 +220,7 @@ module _ (s : List Descriptor) (rq : Request) (unique : Unique s) (t : State) (h
           → Member (t .resolved) (k .name)
       turned (missing n o) e z = fail≠stop z
       turned (enqueued met []) e z =
-          resolved-of met [] (round-front s rq (λ n. Unit {0}) (trivial s rq) unique t (fact .0) met [] e) refl (k .name)
+          resolved-of met [] (round-front s rq (λ n. Unit {0}) (trivial s rq) t (fact .0) met [] e) refl (k .name)
           (unfold asRequirement in enqueue-all false s provider (providers s rq (t .resolved)) 0 (t .met) [] met [] need-it e here (inr refl)) p
       turned (enqueued met (x ∷ q)) e z = ended (runQueue true s rq (record { resolved = t .resolved; met = met; queue = x ∷ q })) z
 
@@ -237,7 +236,7 @@ module _ (s : List Descriptor) (rq : Request) (unique : Unique s) (t : State) (h
         let pk : isPermitted rq (k .name) ≡ true = subst (λ (z : Name). isPermitted rq z ≡ true) (sym (x .1)) p in
         let used = any-in (λ (o : Descriptor). memName v (o .uses)) (a .1) (memName-in (subst (λ (z : Descriptor). Mem v (z .uses)) (sym same) u)) in
         subst (λ (z : Name). Member (t .resolved) z) (x .1)
-        (provider-in k (x .0) (and-both pk (any-in (λ (y : Name). any (λ (o : Descriptor). memName y (o .uses)) (t .resolved)) w used)) pk);
+        (provider-in k (found-observable s q k g) (and-both pk (any-in (λ (y : Name). any (λ (o : Descriptor). memName y (o .uses)) (t .resolved)) w used)) pk);
   }
 
   pub members-smallest : Smallest s rq (Member (t .resolved))
@@ -245,13 +244,12 @@ module _ (s : List Descriptor) (rq : Request) (unique : Unique s) (t : State) (h
     observable = λ n a. (a .0, subst (λ (z : Name). find z s ≡ some (a .0)) (a .2) (fact .0 .0 .sound (a .0) (a .1) .0));
     closed = closed-members;
     smallest = λ C c n a.
-        let i = resolve-inv s rq C c unique t h in
+        let i = resolve-inv s rq C c t h in
         let so = i .0 .0 .sound (a .0) (a .1) in
         subst C (a .2) (i .0 .0 .front .small (a .0 .name) (a .0) (so .2) (so .1) (so .0));
   }
 
-pub accepted : (s : List Descriptor) (rq : Request) → distinct (names s) ≡ true → (t : State) → resolve s rq ≡ done t → Accepted s rq (t .resolved)
-accepted s rq d t h =
-    let unique = unique-of s d in
-    let i = fact s rq unique t h in
-    record { members = members-smallest s rq unique t h; sound = λ m k. i .0 .0 .sound m k .0; apart = i .0 .0 .apart }
+pub accepted : (s : List Descriptor) (rq : Request) (t : State) → resolve s rq ≡ done t → Accepted s rq (t .resolved)
+accepted s rq t h =
+    let i = fact s rq t h in
+    record { members = members-smallest s rq t h; sound = λ m k. i .0 .0 .sound m k .0; apart = i .0 .0 .apart }

@@ -1,4 +1,5 @@
--- Document 01's cases 1 to 5 and 10 over decoded values, a case of refusal 7 and three of refusal 5, by computation.
+-- Document 01's cases 1 to 5 and 10 over decoded values, a case of refusal 7, three of refusal 5 and four of hidden modules (U2), by
+-- computation.
 use mathlib.Core.Path.{_≡_, refl}
 use mathlib.Core.Bool.{false}
 use mathlib.Core.Option.{none, some}
@@ -6,6 +7,7 @@ use mathlib.Core.List.{List, [], _∷_}
 use Rattle.records.specs.Bytes.{sameBytes, beforeBytes}
 use Rattle.records.specs.Name.{javaBase, memName}
 use Rattle.records.specs.Descriptor.{Descriptor}
+use Rattle.records.specs.Finder.{findName, isAt, isFirst}
 use Rattle.records.specs.Request.{Request, isPermitted, withinLimit, hasRead}
 use Rattle.records.specs.Order.{ordered, orderedFrom, insertName}
 use Rattle.resolution.specs.Loop.{Result, failed}
@@ -16,7 +18,7 @@ use Rattle.resolution.specs.Cases.{membersOf, readsOf, ownersOf, moduleO
 
 -- one line opens all: what a definition's own line opens goes with it
 run : List Descriptor → Request → Result State Refusal
-unfolding resolve sameBytes beforeBytes memName isPermitted withinLimit hasRead ordered orderedFrom insertName owner reads membersOf readsOf ownersOf moduleOf requirement request a b c baseModule cycle pages
+unfolding resolve findName isAt isFirst sameBytes beforeBytes memName isPermitted withinLimit hasRead ordered orderedFrom insertName owner reads membersOf readsOf ownersOf moduleOf requirement request a b c baseModule cycle pages
 run s rq = resolve s rq
 
 -- (1) the listing: its modules, their reads, the owners
@@ -83,3 +85,22 @@ pub round-met-case : membersOf (resolve (moduleOf javaBase [] (c ∷ []) [] [] �
     ≡ b ∷ javaBase ∷ []
 unfolding run
 round-met-case = refl
+
+-- the second b is hidden: its service is not provided, and where b is resolved, it is the first
+pub hidden-case : membersOf (resolve (baseModule ∷ moduleOf a [] (c ∷ []) [] [] ∷ moduleOf b [] [] [] [] ∷ moduleOf b [] [] (c ∷ []) (c ∷ []) ∷ []) (request (a ∷ []) none)) ≡ a ∷ javaBase ∷ []
+unfolding run
+hidden-case = refl
+
+pub hidden-owner-case : ownersOf (resolve (baseModule ∷ moduleOf b [] [] [] (a ∷ []) ∷ moduleOf b [] [] [] (c ∷ []) ∷ []) (request (b ∷ []) none)) ≡ (a, some b) ∷ (javaLang, some javaBase) ∷ []
+unfolding run
+hidden-owner-case = refl
+
+-- the second a is hidden: its package is not shared with b, which has it
+pub hidden-package-case : membersOf (resolve (baseModule ∷ moduleOf a (requirement b false ∷ []) [] [] [] ∷ moduleOf b [] [] [] (c ∷ []) ∷ moduleOf a [] [] [] (c ∷ []) ∷ []) (request (a ∷ []) none)) ≡ a ∷ b ∷ javaBase ∷ []
+unfolding run
+hidden-package-case = refl
+
+-- an a in a place in front hides the a that requires b: all modules of the set without it are there, and b is lost
+pub front-case : membersOf (resolve (moduleOf a [] [] [] [] ∷ baseModule ∷ moduleOf a (requirement b false ∷ []) [] [] [] ∷ moduleOf b [] [] [] [] ∷ []) (request (a ∷ []) none)) ≡ a ∷ javaBase ∷ []
+unfolding run
+front-case = refl

@@ -2,29 +2,28 @@
 use mathlib.Core.Path.{_≡_, refl, sym, ap, _∙_, subst}
 use Prim.Native.Nat.{ℕ, zero, suc, _≤_, _<_}
 use native.Mathlib.Omega.{arith}
-use mathlib.Core.Bool.{Bool, true, false, _||_}
+use mathlib.Core.Bool.{Bool, true, false, _&&_, _||_}
 use mathlib.Core.List.{List, [], _∷_, map}
-use lib.Dec.{eqb, ltb}
+use lib.Dec.{eqb}
 use lib.ListN.{length, length-map}
-use borrow.Author.Tests.{eqb-true, ltb-true, ltb-false, ne-eqb}
+use borrow.Author.Tests.{eqb-true, ne-eqb}
 use Rattle.records.specs.Descriptor.{Descriptor}
 use Rattle.records.specs.Request.{requestOf, isPermitted}
-use Rattle.records.specs.Set.{modules, checkSet, distinct}
+use Rattle.records.specs.Set.{modules, checkSet}
 use Rattle.records.specs.declared.set.SetAnswer.the-variants.{Modules}
 use Rattle.records.proofs.set.Blocks.{GoodSet, good-set}
-use Rattle.records.proofs.Logic.{by}
+use Rattle.records.proofs.Logic.{by, true≠false}
 use Rattle.resolution.specs.Lists.{Mem, any}
 use Rattle.resolution.specs.Loop.{done}
-use Rattle.resolution.specs.Positions.{moduleAt}
-use Rattle.resolution.specs.Resolution.{State, hasModule, names, resolve}
+use Rattle.resolution.specs.Positions.{moduleAt, isVisible}
+use Rattle.resolution.specs.Resolution.{State, hasModule, resolve}
 use Rattle.resolution.specs.Resolve.{configurationOf, memberAt, words}
 use Rattle.resolution.specs.Resolver.{isOneOf, resolveAt, startOn}
 use Rattle.resolution.specs.Row.{countBelow, holds, one, size}
-use Rattle.resolution.proofs.Find.{has-find, unique-of}
-use Rattle.resolution.proofs.Positions.{at-mem, has-at, index-at}
+use Rattle.resolution.proofs.Positions.{has-at, index-at, visible-in, visible-located}
 use Rattle.resolution.proofs.ResolverOrder.{allDiffer, few, one-of-out}
 use Rattle.resolution.proofs.ResolverWhole.{Accepts, resolver-accepts}
-use Rattle.resolution.proofs.Sets.{set-distinct, set-length}
+use Rattle.resolution.proofs.Sets.{set-length}
 use Rattle.resolution.proofs.WordBits.{holds-words}
 use Rattle.resolution.proofs.row.Counts.{count-none, count-same, count-suc, count-zero, one-le}
 
@@ -57,19 +56,17 @@ count-list n ps w d = omega (arith, few n ps w d, count-most n ps)
 
 -- ---- the member words
 
-module _ (s : List Descriptor) (d : distinct (names s) ≡ true) (ps : List ℕ) (within : (p : ℕ) → Mem p ps → p < length s) where
+module _ (s : List Descriptor) (ps : List ℕ) (within : (p : ℕ) → Mem p ps → isVisible s p ≡ true) where
   -- the members are the positions
   member-is : (k : ℕ) → memberAt s (map (moduleAt s) ps) k ≡ isOneOf k ps
   unfolding memberAt isOneOf
-  member-is k = by (ltb k (length s)) (λ y. rw y (here (ltb-true k (length s) y))) (λ y. rw y (past (ltb-false k (length s) y)))
+  member-is k = by (isVisible s k) (λ y. rw y (here y)) (λ y. rw y (hidden y))
     where
-      here : k < length s → hasModule (map (moduleAt s) ps) (moduleAt s k .name) ≡ isOneOf k ps
-      here l =
-          let has : hasModule s (moduleAt s k .name) ≡ true = has-find (moduleAt s k .name) s (moduleAt s k) (unique-of s d (moduleAt s k) (at-mem s k l)) in
-          has-at s (moduleAt s k .name) d has ps within ∙ ap (λ (i : ℕ). any (eqb i) ps) (index-at s k d l)
+      here : isVisible s k ≡ true → hasModule (map (moduleAt s) ps) (moduleAt s k .name) ≡ isOneOf k ps
+      here v = has-at s (moduleAt s k .name) (visible-located s k v .observable) ps within ∙ ap (λ (i : ℕ). any (eqb i) ps) (index-at s k v)
 
-      past : length s ≤ k → false ≡ isOneOf k ps
-      past l = sym (by (isOneOf k ps) (λ y. absurd (omega (arith, within k (one-of-out k ps y)))) (λ y. y))
+      hidden : isVisible s k ≡ false → false ≡ isOneOf k ps
+      hidden f = sym (by (isOneOf k ps) (λ y. true≠false (within k (one-of-out k ps y)) f) (λ y. y))
 
   -- the words hold as many as there are positions
   size-is : length s ≤ 256 → allDiffer ps ≡ true → size (words (memberAt s (map (moduleAt s) ps)) 4) ≡ length ps
@@ -77,7 +74,7 @@ module _ (s : List Descriptor) (d : distinct (names s) ≡ true) (ps : List ℕ)
   size-is long once =
       count-same (holds (words (memberAt s (map (moduleAt s) ps)) 4)) (λ k. isOneOf k ps) 256
       (λ k l. holds-words (memberAt s (map (moduleAt s) ps)) 4 k (omega arith) ∙ member-is k)
-      ∙ count-list 256 ps (λ p m. omega (arith, within p m)) once
+      ∙ count-list 256 ps (λ p m. omega (arith, visible-in s p (within p m))) once
 
 -- ---- the whole
 
@@ -89,11 +86,11 @@ unfolding configurationOf
 count-resolved s q n t e st h =
     let g : GoodSet s n t = good-set s n t e in
     let long : length (modules s) ≡ n = set-length s n t g in
-    let permits : ℕ → Bool = (λ i. isPermitted (requestOf q) (moduleAt (modules s) i .name)) in
+    let permits : ℕ → Bool = (λ i. isVisible (modules s) i && isPermitted (requestOf q) (moduleAt (modules s) i .name)) in
     let ws : List ℕ = words permits 4 in
     let a : Accepts s n (resolveAt (startOn s q n t ws)) (st .resolved)
     = resolver-accepts s q n t e ws (λ i l. holds-words permits 4 i (omega (arith, g .few))) st h in
     let ps : List ℕ = resolveAt (startOn s q n t ws) .order in
     subst (λ (ms : List Descriptor). size (words (memberAt (modules s) ms) 4) ≡ length ms) (sym (a .modules-are))
-    (size-is (modules s) (set-distinct s n t g) ps (λ p m. omega (arith, long, a .within p m)) (omega (arith, long, g .few)) (a .once)
+    (size-is (modules s) ps (a .visible) (omega (arith, long, g .few)) (a .once)
     ∙ sym (length-map ps (moduleAt (modules s))))

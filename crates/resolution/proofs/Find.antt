@@ -1,23 +1,14 @@
 -- Lookup by name.
-use mathlib.Core.Path.{_≡_, refl, sym, ap, subst}
-use mathlib.Core.Bool.{Bool, true, false, not, _||_, cond}
+use mathlib.Core.Path.{_≡_, refl, sym, ap}
+use mathlib.Core.Bool.{Bool, true, _||_}
 use mathlib.Core.Option.{some}
-use mathlib.Core.List.{List, [], _∷_, List·Memᴰ·not-nil, List·Memᴰ·cases-cons, Memᴰ·cast}
-use mathlib.Core.Logic.{⊎-elim}
-use borrow.Author.Tests.{not-true}
-use Rattle.records.proofs.bytes.Laws.{same-refl}
-use Rattle.records.proofs.Logic.{and-left, and-right, by, true≠false}
+use mathlib.Core.List.{List, [], _∷_}
 use Rattle.records.specs.Bytes.{sameBytes}
 use Rattle.records.specs.Descriptor.{Descriptor}
 use Rattle.records.specs.Name.{memName}
-use Rattle.records.specs.Set.{distinct}
 use Rattle.resolution.specs.Lists.{Mem, Name, any, first}
 use Rattle.resolution.specs.Resolution.{find, hasModule, names}
-use Rattle.resolution.proofs.Lists.{any-in, any-out, first-in, first-out, map-in, memName-in, same→, →same}
-
--- each module is the one that its name finds: what "no name twice" comes to
-abbrev pub Unique : List Descriptor → Type 0
-Unique s = (m : Descriptor) → Mem m s → find (m .name) s ≡ some m
+use Rattle.resolution.proofs.Lists.{any-in, any-out, first-in, first-out, same→, →same}
 
 pub find-mem : (n : Name) (s : List Descriptor) (m : Descriptor) → find n s ≡ some m → Mem m s × (m .name ≡ n)
 unfolding find
@@ -40,19 +31,3 @@ pub has-names : (s : List Descriptor) (n : Name) → hasModule s n ≡ memName n
 unfolding hasModule any memName
 has-names [] n = refl
 has-names (m ∷ ms) n = ap (λ (b : Bool). sameBytes (m .name) n || b) (has-names ms n)
-
--- where no name stands twice, each module is the one that its name finds
-pub unique-of : (s : List Descriptor) → distinct (names s) ≡ true → Unique s
-unfolding distinct find first
-unique-of [] d m h = absurd (List·Memᴰ·not-nil h)
-unique-of (x ∷ xs) d m h = ⊎-elim
-    (λ (e : m ≡ x). subst (λ (z : Descriptor). cond (sameBytes (x .name) (z .name)) (some x) (find (z .name) xs) ≡ some z) (sym e) (rw (same-refl (x .name))))
-    (λ (k : Mem m xs). rw (other k) (unique-of xs (and-right (not (memName (x .name) (names xs))) (distinct (names xs)) d) m k))
-    (List·Memᴰ·cases-cons h)
-  where
-    new : memName (x .name) (names xs) ≡ false
-    new = not-true (memName (x .name) (names xs)) (and-left (not (memName (x .name) (names xs))) (distinct (names xs)) d)
-
-    other : Mem m xs → sameBytes (x .name) (m .name) ≡ false
-    other k = by (sameBytes (x .name) (m .name))
-        (λ u. true≠false (memName-in (Memᴰ·cast (sym (same→ (m .name) (x .name) u)) (map-in (λ (z : Descriptor). z .name) k))) new) (λ u. u)

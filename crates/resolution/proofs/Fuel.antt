@@ -15,9 +15,10 @@ use Rattle.records.proofs.Logic.{by, true≠false}
 use Rattle.resolution.specs.Lists.{Mem, Name, keep}
 use Rattle.resolution.specs.Loop.{Result, Step, done, fail, failed, go, loop, stop}
 use Rattle.resolution.specs.Owner.{least, shared}
-use Rattle.resolution.specs.Resolution.{Enqueued, Item, Place, Refusal, State, add, asRequirement, baseMet, baseQueue, candidates, choose, enqueue, enqueued, find, found, handled, hasModule, indexOf, isProvider, javaBaseNotFound, missing, moduleNotFound, names, passed, provider, providers, queueFuel, ran, ranOut, required, resolve, root, round, roundOn, rounds, runQueue, seeds, splitPackage, started, taken, tested, turn}
+use Rattle.resolution.specs.Resolution.{Enqueued, Item, QueuedBy, Refusal, State, add, asRequirement, baseMet, baseQueue, candidates, choose, enqueue, enqueued, find, found, handled, hasModule, indexOf, isProvider, javaBaseNotFound, missing, observable, moduleNotFound, names, passed, provider, providers, queueFuel, ran, ranOut, required, resolve, root, round, roundOn, rounds, runQueue, seeds, splitPackage, started, taken, tested, turn}
 use Rattle.resolution.proofs.Enqueue.{count, enqueue-inv, enqueue-mono, enqueue-size, fresh, fresh-lt, item, met-new, met-old}
 use Rattle.resolution.proofs.Find.{find-mem}
+use Rattle.resolution.proofs.Observable.{observable-mem}
 use Rattle.resolution.proofs.Lists.{flat-in, keep-out, map-in, map-out}
 use Rattle.resolution.proofs.Loop.{fail≠go, loop-fuel, loop-same, loop-inv, stop≠go}
 use Rattle.resolution.proofs.Queue.{Turned, passed-inv, skipped, took}
@@ -41,7 +42,7 @@ stop≠fail e = absurd (let z : _≡_ {A = ℕ} 0 1 = cc in omega arith)
 go≠fail : {X : Type 0} {a : Refusal} {s : State} → _≡_ {A = Step State Refusal} (go s) (fail a) → X
 go≠fail e = absurd (let z : _≡_ {A = ℕ} 0 1 = cc in omega arith)
 
-absent≠out : {X : Type 0} {n : Name} {o : Place} → _≡_ {A = Step State Refusal} (fail (moduleNotFound n o)) (fail ranOut) → X
+absent≠out : {X : Type 0} {n : Name} {o : QueuedBy} → _≡_ {A = Step State Refusal} (fail (moduleNotFound n o)) (fail ranOut) → X
 absent≠out e = absurd (let z : _≡_ {A = ℕ} 0 1 = cc in omega arith)
 
 split≠out : {X : Type 0} {n m k : Name} → _≡_ {A = Step State Refusal} (fail (splitPackage n m k)) (fail ranOut) → X
@@ -58,7 +59,7 @@ module _ (X : Type 0) (inRound : Bool) (s : List Descriptor) (rq : Request) (e :
   tested-out m (some p) h = split≠out h
   tested-out m none h = handled-out (ms ++ (m ∷ [])) (enqueue inRound s (required (indexOf (m .name) s)) (m .requires) 0 met q) h
 
-  missing-out : (b : Bool) → _≡_ {A = Step State Refusal} (fail (cond b javaBaseNotFound (moduleNotFound (e .name) (e .place)))) (fail ranOut) → X
+  missing-out : (b : Bool) → _≡_ {A = Step State Refusal} (fail (cond b javaBaseNotFound (moduleNotFound (e .name) (e .by)))) (fail ranOut) → X
   missing-out true h = absurd (let z : _≡_ {A = ℕ} 0 1 = cc in omega arith)
   missing-out false h = absent≠out h
 
@@ -137,11 +138,11 @@ module _ (s : List Descriptor) (rq : Request) where
 
   -- ---- the rounds
 
-  pub providers-in : (ms : List Descriptor) (r : Requirement) → Mem r (providers s rq ms) → (m : Descriptor) × Mem m s × (r .name ≡ m .name)
+  pub providers-in : (ms : List Descriptor) (r : Requirement) → Mem r (providers s rq ms) → (m : Descriptor) × Mem m (observable s) × (r .name ≡ m .name)
   unfolding providers asRequirement
   providers-in ms r h =
-      let x = map-out (λ (m : Descriptor). asRequirement (m .name)) (keep (isProvider ms rq) s) h in
-      (x .0, keep-out (isProvider ms rq) s (x .1) .0, ap (λ (z : Requirement). z .name) (x .2))
+      let x = map-out (λ (m : Descriptor). asRequirement (m .name)) (keep (isProvider ms rq) (observable s)) h in
+      (x .0, keep-out (isProvider ms rq) (observable s) (x .1) .0, ap (λ (z : Requirement). z .name) (x .2))
 
   -- what a round queues is a module that was not met before
   News : List Name → List Name → List Item → Type 0
@@ -161,7 +162,7 @@ module _ (s : List Descriptor) (rq : Request) where
             λ a k. ⊎-elim (λ z. (p .1 a z .0, p .1 a z .1, met-old (a .name) (r .name) mt (p .1 a z .2)))
                 (λ z. subst (λ (b : Item). (memName (b .name) met ≡ false) × Mem (b .name) (names s) × (memName (b .name) (r .name ∷ mt) ≡ true)) (sym (List·Memᴰ·eq-of-singleton z)) (
                   by (memName (r .name) met) (λ u. true≠false (p .0 (r .name) u) new) (λ u. u),
-                  Memᴰ·cast (y .2) (map-in (λ (m : Descriptor). m .name) (y .1)),
+                  Memᴰ·cast (y .2) (map-in (λ (m : Descriptor). m .name) (observable-mem s (y .0) (y .1))),
                   met-new (r .name) mt,
                 )) (List·Memᴰ·append-cases w k),
           )
@@ -193,7 +194,7 @@ module _ (s : List Descriptor) (rq : Request) where
       omega (
         arith,
         enqueue-size false s provider (candidates s rq) (providers s rq ms) 0 met [] met₂ q
-            (λ r h. let y = providers-in ms r h in Memᴰ·cast (y .2) (in-mod (y .0) (y .1))) e,
+            (λ r h. let y = providers-in ms r h in Memᴰ·cast (y .2) (in-mod (y .0) (observable-mem s (y .0) (y .1)))) e,
         fresh-length (candidates s rq) met,
       )
 

@@ -14,6 +14,10 @@ pub mod Short
 pub mod Room
 pub mod Visit
 pub mod Positions
+pub mod Observable
+pub mod Firsts
+pub mod SameResolution
+pub mod Composed
 pub mod Cases
 pub mod Sets
 pub mod ResolverQueue
@@ -24,6 +28,8 @@ pub mod ResolverWhole
 pub mod ByteCases
 pub mod WordBits
 pub mod Words
+pub mod Observed
+pub mod Hidden
 pub mod PackageOwner
 pub mod Absence
 pub mod Count

@@ -14,7 +14,7 @@ use Rattle.records.specs.Request.{Request, isPermitted}
 use Rattle.records.proofs.Logic.{and-both, and-left, and-right, by, not-of-false, or-cases, or-left, or-right, true≠false}
 use Rattle.resolution.specs.Closed.{Member}
 use Rattle.resolution.specs.Lists.{Mem, Name, any}
-use Rattle.resolution.specs.Resolution.{Choice, Enqueued, Item, Place, add, choose, enqueue, enqueueNext, enqueued, find, hasModule, missing, pass, refuse}
+use Rattle.resolution.specs.Resolution.{Choice, Enqueued, Item, QueuedBy, add, choose, enqueue, enqueueNext, enqueued, find, hasModule, missing, pass, refuse}
 use Rattle.resolution.specs.Short.{Line, Lined, empty, fault, isMet, lineOf, lined, push, pushed, put, shortEnqueue, shortNext}
 use Rattle.resolution.proofs.Enqueue.{item, met-old}
 use Rattle.resolution.proofs.Find.{find-mem}
@@ -122,7 +122,7 @@ not-met inRound old s rq ms met q n r h = by (isMet inRound old s ms (lineOf s r
         (λ b. r .past (and-left inRound _ b) n (not-true (hasModule s n) (and-left (not (hasModule s n)) (old n) (and-right inRound _ b))) ∙ and-right (not (hasModule s n)) (old n) (and-right inRound _ b)))
 
 -- what is met, and neither resolved nor waiting, changes nothing at the end of the line
-push-none : (inRound : Bool) (old : Name → Bool) (s : List Descriptor) (rq : Request) (ms : List Descriptor) (met : List Name) (q : List Item) (n : Name) (o : Place)
+push-none : (inRound : Bool) (old : Name → Bool) (s : List Descriptor) (rq : Request) (ms : List Descriptor) (met : List Name) (q : List Item) (n : Name) (o : QueuedBy)
     → Ready inRound old s rq ms met q → memName n met ≡ true → isMet inRound old s ms (lineOf s rq q) n ≡ false → push (lineOf s rq q) (isPermitted rq n) (find n s) (item n o) ≡ lineOf s rq q
 unfolding push isMet
 push-none inRound old s rq ms met q n o r h k = pushed-none (lineOf s rq q .halt) (lineOf s rq q .todo) (isPermitted rq n) (find n s) (item n o) (by (isPermitted rq n) (λ p. inr (halted p)) (λ p. inl p))
@@ -172,7 +172,7 @@ round-observable true false false k w = absurd (let z : _≡_ {A = ℕ} 0 1 = cc
 round-observable false false false k w = true≠false k refl
 
 -- what is queued keeps what the queueings rest on
-ready-add : (inRound : Bool) (old : Name → Bool) (s : List Descriptor) (rq : Request) (ms : List Descriptor) (met : List Name) (q : List Item) (n : Name) (o : Place) (static : Bool)
+ready-add : (inRound : Bool) (old : Name → Bool) (s : List Descriptor) (rq : Request) (ms : List Descriptor) (met : List Name) (q : List Item) (n : Name) (o : QueuedBy) (static : Bool)
     → choose inRound false (hasModule s n) static ≡ add → Ready inRound old s rq ms met q → Ready inRound old s rq ms (n ∷ met) (q ++ (item n o ∷ []))
 ready-add inRound old s rq ms met q n o static c r =
     record {
@@ -181,9 +181,9 @@ ready-add inRound old s rq ms met q n o static c r =
       past = λ lt. past-add s old n met (round-observable inRound (hasModule s n) static lt c) (r .past lt);
     }
 
-module _ (inRound : Bool) (old : Name → Bool) (s : List Descriptor) (rq : Request) (placeOf : ℕ → Place) (ms : List Descriptor) where
+module _ (inRound : Bool) (old : Name → Bool) (s : List Descriptor) (rq : Request) (byOf : ℕ → QueuedBy) (ms : List Descriptor) where
   pub short-enqueue-view : (rs : List Requirement) (j : ℕ) (met : List Name) (q : List Item) → Ready inRound old s rq ms met q
-      → shortEnqueue inRound old s rq placeOf ms rs j (lineOf s rq q) ≡ view s rq (enqueue inRound s placeOf rs j met q)
+      → shortEnqueue inRound old s rq byOf ms rs j (lineOf s rq q) ≡ view s rq (enqueue inRound s byOf rs j met q)
   unfolding shortEnqueue enqueue
   short-enqueue-view [] j met q r = unfold view in refl
   short-enqueue-view (x ∷ rs) j met q r =
@@ -196,27 +196,27 @@ module _ (inRound : Bool) (old : Name → Bool) (s : List Descriptor) (rq : Requ
       l = lineOf s rq q
 
       Below : Type 0
-      Below = (mt : List Name) (w : List Item) → Ready inRound old s rq ms mt w → shortEnqueue inRound old s rq placeOf ms rs (suc j) (lineOf s rq w) ≡ view s rq (enqueue inRound s placeOf rs (suc j) mt w)
+      Below = (mt : List Name) (w : List Item) → Ready inRound old s rq ms mt w → shortEnqueue inRound old s rq byOf ms rs (suc j) (lineOf s rq w) ≡ view s rq (enqueue inRound s byOf rs (suc j) mt w)
 
       left : Choice → Lined
-      left c = shortNext rq s c n (placeOf j) l (λ l₂. shortEnqueue inRound old s rq placeOf ms rs (suc j) l₂)
+      left c = shortNext rq s c n (byOf j) l (λ l₂. shortEnqueue inRound old s rq byOf ms rs (suc j) l₂)
 
       right : Choice → Lined
-      right c = view s rq (enqueueNext c n (placeOf j) met q (λ m₂ q₂. enqueue inRound s placeOf rs (suc j) m₂ q₂))
+      right c = view s rq (enqueueNext c n (byOf j) met q (λ m₂ q₂. enqueue inRound s byOf rs (suc j) m₂ q₂))
 
       -- the same choice
       same : (c : Choice) → choose inRound false (hasModule s n) (x .static) ≡ c → Below → left c ≡ right c
       same pass e below = below met q r
-      same add e below = rw (← (line-append s rq q (item n (placeOf j)))) (below (n ∷ met) (q ++ (item n (placeOf j) ∷ [])) (ready-add inRound old s rq ms met q n (placeOf j) (x .static) e r))
+      same add e below = rw (← (line-append s rq q (item n (byOf j)))) (below (n ∷ met) (q ++ (item n (byOf j) ∷ [])) (ready-add inRound old s rq ms met q n (byOf j) (x .static) e r))
       same refuse e below = unfold view in refl
 
       -- met, and neither resolved nor waiting
       idle : (lt ns st : Bool) → inRound ≡ lt → hasModule s n ≡ ns → memName n met ≡ true → isMet inRound old s ms l n ≡ false → Below
           → left (choose lt false ns st) ≡ right pass
-      idle lt true st u v h k below = rw (push-none inRound old s rq ms met q n (placeOf j) r h k) (below met q r)
+      idle lt true st u v h k below = rw (push-none inRound old s rq ms met q n (byOf j) r h k) (below met q r)
       idle lt false true u v h k below = below met q r
       idle true false false u v h k below = absurd (past-met inRound old s rq ms met q n r u v h k)
-      idle false false false u v h k below = rw (push-none inRound old s rq ms met q n (placeOf j) r h k) (below met q r)
+      idle false false false u v h k below = rw (push-none inRound old s rq ms met q n (byOf j) r h k) (below met q r)
 
       turned : (a b : Bool) → memName n met ≡ a → isMet inRound old s ms l n ≡ b → Below
           → left (choose inRound b (hasModule s n) (x .static)) ≡ right (choose inRound a (hasModule s n) (x .static))

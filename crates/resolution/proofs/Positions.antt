@@ -3,25 +3,24 @@ use mathlib.Core.Path.{_≡_, refl, sym, ap, _∙_, subst}
 use Prim.Native.Nat.{ℕ, zero, suc, _+_, _<_}
 use native.Mathlib.Omega.{arith}
 use native.Mathlib.Nat.{add-zero}
-use mathlib.Core.Bool.{Bool, true, false, not, _||_, cond}
+use mathlib.Core.Bool.{Bool, true, false, _||_, cond}
 use mathlib.Core.Option.{none, some}
-use mathlib.Core.List.{List, [], _∷_, map, List·Memᴰ·head, List·Memᴰ·tail, Memᴰ·cast}
-use lib.ListN.{length}
+use mathlib.Core.List.{List, [], _∷_, map, List·Memᴰ·head, List·Memᴰ·tail}
+use lib.ListN.{length, getD}
 use lib.Dec.{eqb}
-use borrow.Author.Tests.{eq-eqb, eqb-true, not-true}
+use borrow.Author.Tests.{eq-eqb, eqb-true}
 use Rattle.records.specs.declared.finder.Found.the-variants.{At, Nothing}
-use Rattle.records.proofs.bytes.Laws.{same-eq, same-refl}
-use Rattle.records.proofs.Logic.{and-left, and-right, by, true≠false}
+use Rattle.records.proofs.bytes.Laws.{same-eq}
+use Rattle.records.proofs.finder.Modules.{is-at, at-is}
+use Rattle.records.proofs.Logic.{true≠false}
 use Rattle.records.specs.Bytes.{sameBytes}
 use Rattle.records.specs.Descriptor.{Descriptor}
-use Rattle.records.specs.Finder.{findName, pickFound}
-use Rattle.records.specs.Name.{memName}
-use Rattle.records.specs.Set.{distinct}
+use Rattle.records.specs.Finder.{findName, pickFound, isFirst}
 use Rattle.resolution.specs.Lists.{Mem, Name, any, first}
-use Rattle.resolution.specs.Positions.{moduleAt}
+use Rattle.resolution.specs.Positions.{moduleAt, isVisible}
 use Rattle.resolution.specs.Resolution.{find, hasModule, indexOf, names}
 use Rattle.resolution.proofs.Find.{find-mem}
-use Rattle.resolution.proofs.Lists.{map-in, memName-in, →same}
+use Rattle.resolution.proofs.Lists.{→same}
 
 -- ---- the position of a name
 
@@ -89,32 +88,54 @@ not-located n s e = turned (hasModule s n) refl (sym (find-name n s 0) ∙ e)
     turned true h k = absurd (let z : _≡_ {A = ℕ} 0 1 = cc in omega arith)
     turned false h k = (h, find-none n s h)
 
+-- within a list, what stands for its end does not matter
+pub getD-any : {A : Type 0} (l : List A) (i : ℕ) (a b : A) → i < length l → getD l i a ≡ getD l i b
+getD-any [] i a b h = absurd (omega arith)
+getD-any (x ∷ l) zero a b h = refl
+getD-any (x ∷ l) (suc i) a b h = getD-any l i a b (omega arith)
+
 pub at-mem : (s : List Descriptor) (i : ℕ) → i < length s → Mem (moduleAt s i) s
 at-mem [] i h = absurd (omega arith)
 at-mem (m ∷ ms) zero h = List·Memᴰ·head refl
 at-mem (m ∷ ms) (suc i) h = List·Memᴰ·tail (at-mem ms i (omega arith))
 
--- with no name twice, the name at a position is at that position
-pub index-at : (s : List Descriptor) (i : ℕ) → distinct (names s) ≡ true → i < length s → indexOf (moduleAt s i .name) s ≡ i
-unfolding indexOf distinct
-index-at [] i d h = absurd (omega arith)
-index-at (m ∷ ms) zero d h = rw (same-refl (m .name))
-index-at (m ∷ ms) (suc i) d h = rw (other, index-at ms i (and-right (not (memName (m .name) (names ms))) (distinct (names ms)) d) (omega arith))
-  where
-    other : sameBytes (m .name) (moduleAt ms i .name) ≡ false
-    other = by (sameBytes (m .name) (moduleAt ms i .name))
-        (λ u. true≠false (memName-in (Memᴰ·cast (same-eq (m .name) (moduleAt ms i .name) u) (map-in (λ (z : Descriptor). z .name) (at-mem ms i (omega arith)))))
-        (not-true (memName (m .name) (names ms)) (and-left (not (memName (m .name) (names ms))) (distinct (names ms)) d))) (λ u. u)
+-- ---- a position that is not hidden
+
+-- it is where its name is found
+pub visible-located : (s : List Descriptor) (i : ℕ) → isVisible s i ≡ true → Located (moduleAt s i .name) s i
+unfolding isVisible isFirst
+visible-located s i v = located (moduleAt s i .name) s i (is-at (findName (names s) (moduleAt s i .name) 0) i v)
+
+pub visible-in : (s : List Descriptor) (i : ℕ) → isVisible s i ≡ true → i < length s
+visible-in s i v = visible-located s i v .within
+
+pub visible-found : (s : List Descriptor) (i : ℕ) → isVisible s i ≡ true → find (moduleAt s i .name) s ≡ some (moduleAt s i)
+visible-found s i v = visible-located s i v .is
+
+pub index-at : (s : List Descriptor) (i : ℕ) → isVisible s i ≡ true → indexOf (moduleAt s i .name) s ≡ i
+index-at s i v = visible-located s i v .index
+
+-- and where a name is found, none is hidden
+pub located-visible : (n : Name) (s : List Descriptor) (i : ℕ) → Located n s i → isVisible s i ≡ true
+unfolding isVisible isFirst
+located-visible n s i l =
+    let q : moduleAt s i .name ≡ n = find-mem n s (moduleAt s i) (l .is) .1 in
+    let z : 0 + i ≡ i = omega arith in
+    at-is (findName (names s) (moduleAt s i .name) 0) i (rw (q, find-name n s 0, l .observable, l .index, z))
+
+-- the position of a name that is there
+pub index-visible : (n : Name) (s : List Descriptor) → hasModule s n ≡ true → isVisible s (indexOf n s) ≡ true
+index-visible n s h = located-visible n s (indexOf n s) (record { observable = h; within = index-in n s h; is = find-at n s h; index = refl })
 
 -- a name is among the modules at some positions just if its position is among the positions
-pub has-at : (s : List Descriptor) (n : Name) → distinct (names s) ≡ true → hasModule s n ≡ true → (ps : List ℕ) → ((p : ℕ) → Mem p ps → p < length s)
+pub has-at : (s : List Descriptor) (n : Name) → hasModule s n ≡ true → (ps : List ℕ) → ((p : ℕ) → Mem p ps → isVisible s p ≡ true)
     → hasModule (map (moduleAt s) ps) n ≡ any (eqb (indexOf n s)) ps
 unfolding hasModule any
-has-at s n d l [] b = refl
-has-at s n d l (p ∷ ps) b = turned (sameBytes (moduleAt s p .name) n) (eqb (indexOf n s) p) refl refl (has-at s n d l ps (λ x h. b x (List·Memᴰ·tail h)))
+has-at s n l [] b = refl
+has-at s n l (p ∷ ps) b = turned (sameBytes (moduleAt s p .name) n) (eqb (indexOf n s) p) refl refl (has-at s n l ps (λ x h. b x (List·Memᴰ·tail h)))
   where
     here : indexOf (moduleAt s p .name) s ≡ p
-    here = index-at s p d (b p (List·Memᴰ·head refl))
+    here = index-at s p (b p (List·Memᴰ·head refl))
 
     turned : (x y : Bool) → sameBytes (moduleAt s p .name) n ≡ x → eqb (indexOf n s) p ≡ y
         → hasModule (map (moduleAt s) ps) n ≡ any (eqb (indexOf n s)) ps

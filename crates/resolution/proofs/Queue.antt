@@ -14,7 +14,7 @@ use Rattle.resolution.specs.Closed.{Closed, Member}
 use Rattle.resolution.specs.Lists.{Mem, Name, any, keep}
 use Rattle.resolution.specs.Loop.{go}
 use Rattle.resolution.specs.Owner.{least, lesser, shared}
-use Rattle.resolution.specs.Resolution.{Enqueued, Item, Place, State, enqueue, enqueued, find, found, handled, hasModule, indexOf, missing, passed, required, taken, tested, turn}
+use Rattle.resolution.specs.Resolution.{Enqueued, Item, QueuedBy, State, enqueue, enqueued, find, found, handled, hasModule, indexOf, missing, passed, required, taken, tested, turn}
 use Rattle.resolution.proofs.Enqueue.{enqueue-all, enqueue-inv, enqueue-mono, item, met-cases, met-new, met-old}
 use Rattle.resolution.proofs.Find.{find-mem}
 use Rattle.resolution.proofs.Lists.{any-in, keep-in, memName-in}
@@ -40,7 +40,7 @@ pub record Invariant (s : List Descriptor) (rq : Request) (C : Name → Type 0) 
   pub apart : (m k : Descriptor) (p : Name) → Mem m (st .resolved) → Mem k (st .resolved) → Mem p (m .packages) → Mem p (k .packages) → m ≡ k
 
 -- one more name in the queue
-pub front-add : (s : List Descriptor) (rq : Request) (C : Name → Type 0) (ms : List Descriptor) (n : Name) (o : Place) (mt : List Name) (w : List Item)
+pub front-add : (s : List Descriptor) (rq : Request) (C : Name → Type 0) (ms : List Descriptor) (n : Name) (o : QueuedBy) (mt : List Name) (w : List Item)
     → ((m : Descriptor) → isPermitted rq n ≡ true → find n s ≡ some m → C n) → Front s rq C ms mt w → Front s rq C ms (n ∷ mt) (w ++ (item n o ∷ []))
 front-add s rq C ms n o mt w inC g =
     let x : Item = item n o in
@@ -58,11 +58,11 @@ front-add s rq C ms n o mt w inC g =
     }
 
 -- queueing keeps the front, where what it queues is in C
-pub enqueue-front : (s : List Descriptor) (rq : Request) (C : Name → Type 0) (ms : List Descriptor) (inRound : Bool) (placeOf : ℕ → Place) (rs : List Requirement) (j : ℕ) (met : List Name) (q : List Item) (met₂ : List Name) (q₂ : List Item)
+pub enqueue-front : (s : List Descriptor) (rq : Request) (C : Name → Type 0) (ms : List Descriptor) (inRound : Bool) (byOf : ℕ → QueuedBy) (rs : List Requirement) (j : ℕ) (met : List Name) (q : List Item) (met₂ : List Name) (q₂ : List Item)
     → ((r : Requirement) (m : Descriptor) → Mem r rs → isPermitted rq (r .name) ≡ true → find (r .name) s ≡ some m → C (r .name))
-    → Front s rq C ms met q → enqueue inRound s placeOf rs j met q ≡ enqueued met₂ q₂ → Front s rq C ms met₂ q₂
-enqueue-front s rq C ms inRound placeOf rs j met q met₂ q₂ inC f e =
-    enqueue-inv inRound s placeOf (λ mt w. Front s rq C ms mt w) rs j met q met₂ q₂ (λ r i mt w m new c g. front-add s rq C ms (r .name) (placeOf i) mt w (λ k. inC r k m) g) f e
+    → Front s rq C ms met q → enqueue inRound s byOf rs j met q ≡ enqueued met₂ q₂ → Front s rq C ms met₂ q₂
+enqueue-front s rq C ms inRound byOf rs j met q met₂ q₂ inC f e =
+    enqueue-inv inRound s byOf (λ mt w. Front s rq C ms mt w) rs j met q met₂ q₂ (λ r i mt w m new c g. front-add s rq C ms (r .name) (byOf i) mt w (λ k. inC r k m) g) f e
 
 -- the first of the queue is resolved
 pub front-take : (s : List Descriptor) (rq : Request) (C : Name → Type 0) (ms : List Descriptor) (met : List Name) (e : Item) (q : List Item) (m : Descriptor)
@@ -153,12 +153,12 @@ module _ (s : List Descriptor) (rq : Request) (C : Name → Type 0) (closed : Cl
       }
   keeps-turned ms met e q t i (took m met₂ q₂ p f l k) =
       record {
-        front = enqueue-front s rq C all inRound placeOf (m .requires) 0 met q met₂ q₂ inC before k;
+        front = enqueue-front s rq C all inRound byOf (m .requires) 0 met q met₂ q₂ inC before k;
         sound = λ a h. ⊎-elim (λ x. (i .sound a x .0, i .sound a x .1, grow (a .name) (i .sound a x .2))) (λ x. subst Sound (sym (List·Memᴰ·eq-of-singleton x)) mine) (List·Memᴰ·append-cases ms h);
         base = grow javaBase (i .base);
         roots = λ n h. grow n (i .roots n h);
         reqs = λ a r h u v. ⊎-elim (λ x. grow (r .name) (i .reqs a r x u v))
-            (λ x. enqueue-all inRound s placeOf (m .requires) 0 met q met₂ q₂ r k (subst (λ (z : Descriptor). Mem r (z .requires)) (List·Memᴰ·eq-of-singleton x) u) v)
+            (λ x. enqueue-all inRound s byOf (m .requires) 0 met q met₂ q₂ r k (subst (λ (z : Descriptor). Mem r (z .requires)) (List·Memᴰ·eq-of-singleton x) u) v)
             (List·Memᴰ·append-cases ms h);
         apart = λ a b x ha hb pa pb. ⊎-elim
             (λ oa. ⊎-elim (λ ob. i .apart a b x oa ob pa pb)
@@ -171,8 +171,8 @@ module _ (s : List Descriptor) (rq : Request) (C : Name → Type 0) (closed : Cl
       all : List Descriptor
       all = ms ++ (m ∷ [])
 
-      placeOf : ℕ → Place
-      placeOf = required (indexOf (m .name) s)
+      byOf : ℕ → QueuedBy
+      byOf = required (indexOf (m .name) s)
 
       name-is : m .name ≡ e .name
       name-is = find-mem (e .name) s m f .1
@@ -181,7 +181,7 @@ module _ (s : List Descriptor) (rq : Request) (C : Name → Type 0) (closed : Cl
       Sound a = (find (a .name) s ≡ some a) × (isPermitted rq (a .name) ≡ true) × (memName (a .name) met₂ ≡ true)
 
       grow : (n : Name) → memName n met ≡ true → memName n met₂ ≡ true
-      grow n h = enqueue-mono inRound s placeOf (m .requires) 0 met q met₂ q₂ n k h
+      grow n h = enqueue-mono inRound s byOf (m .requires) 0 met q met₂ q₂ n k h
 
       now : memName (e .name) met ≡ true
       now = i .front .queued e (List·Memᴰ·head refl)

@@ -28,8 +28,8 @@ use Rattle.resolution.specs.declared.resolver.Halt.the-variants as Halt
 use Rattle.resolution.specs.declared.resolver.Wanted.{Wanted}
 use Rattle.resolution.specs.declared.resolver.Wanted.the-variants.{Pass, Add, Stop}
 use Rattle.resolution.specs.Lists.{Mem, Name, any}
-use Rattle.resolution.specs.Positions.{moduleAt}
-use Rattle.resolution.specs.Resolution.{Item, Place, choose, find, hasModule, indexOf, javaBaseNotFound, moduleNotFound, names}
+use Rattle.resolution.specs.Positions.{moduleAt, isVisible}
+use Rattle.resolution.specs.Resolution.{Item, QueuedBy, choose, find, hasModule, indexOf, javaBaseNotFound, moduleNotFound, names}
 use Rattle.resolution.specs.Resolve.{bodyStart, errorOf}
 use Rattle.resolution.specs.Resolver.{Inputs, Line, isMetBefore, isOneOf, kindFor, locate, pickLine, pickWanted, queueIn, queued, queuedOn, want, wantAbsent, wantFound, wantRecord, queuedAt, wantUnfound}
 use Rattle.resolution.specs.Row.{holds}
@@ -37,15 +37,15 @@ use Rattle.resolution.specs.Short.{Lined, Short, fault, isMet, lined, pu
 use Rattle.resolution.specs.Short as Short
 use Rattle.resolution.proofs.Find.{find-mem}
 use Rattle.resolution.proofs.Lists.{any-in, any-out, map-append, map-out}
-use Rattle.resolution.proofs.Positions.{Located, at-mem, has-at, located, not-located}
-use Rattle.resolution.proofs.Sets.{set-distinct, set-length}
+use Rattle.resolution.proofs.Positions.{Located, at-mem, has-at, located, not-located, visible-in, located-visible}
+use Rattle.resolution.proofs.Sets.{set-length}
 
 -- what the positional form reads, and that it is what the definition reads: a set that the check took, its table, and the row of
--- the positions whose modules are permitted
+-- the positions whose modules are permitted and not hidden
 pub record Given (s q : List ℕ) (n : ℕ) (t ws : List ℕ) : Type 0 where
   pub good : GoodSet s n t
   pub table : checkSet s .starts ≡ t
-  pub permits : (i : ℕ) → i < n → holds ws i ≡ isPermitted (requestOf q) (moduleAt (modules s) i .name)
+  pub permits : (i : ℕ) → i < n → holds ws i ≡ isVisible (modules s) i && isPermitted (requestOf q) (moduleAt (modules s) i .name)
 
 abbrev pub inputs : List ℕ → List ℕ → ℕ → List ℕ → List ℕ → Bool → List ℕ → Inputs
 inputs s q n t ws inRound before = record { set = s; request = q; starts = t; count = n; permitted = ws; inRound = inRound; before = before }
@@ -55,14 +55,14 @@ inputs s q n t ws inRound before = record { set = s; request = q; starts = t; co
 abbrev pub modulesAt : List ℕ → List ℕ → List Descriptor
 modulesAt s ps = map (moduleAt (modules s)) ps
 
--- each position is one of the set
+-- each position is one of the set and not hidden
 abbrev pub Within : List ℕ → List ℕ → Type 0
-Within s ps = (p : ℕ) → Mem p ps → p < length (modules s)
+Within s ps = (p : ℕ) → Mem p ps → isVisible (modules s) p ≡ true
 
 -- the refusal of an absent name, when it comes up
 unfoldable pub haltOf : List ℕ → List ℕ → Option Item → Halt
 haltOf s q none = Halt.Open
-haltOf s q (some e) = Halt.Stop (errorOf s q (cond (sameBytes (e .name) javaBase) javaBaseNotFound (moduleNotFound (e .name) (e .place))))
+haltOf s q (some e) = Halt.Stop (errorOf s q (cond (sameBytes (e .name) javaBase) javaBaseNotFound (moduleNotFound (e .name) (e .by))))
 
 -- ps are resolved, qs wait
 abbrev pub lineAt : List ℕ → List ℕ → Halt → Line
@@ -78,8 +78,8 @@ shortState s ps qs h = record { resolved = modulesAt s ps; line = shortLine s qs
 abbrev pub NoHalt : Bool → Option Item → Type 0
 NoHalt inRound h = inRound ≡ true → h ≡ none
 
-pub within-one : (s ps : List ℕ) (i : ℕ) → Within s ps → i < length (modules s) → Within s (ps ++ (i ∷ []))
-within-one s ps i w l p m = ⊎-elim (λ h. w p h) (λ h. subst (λ (x : ℕ). x < length (modules s)) (sym (List·Memᴰ·eq-of-singleton h)) l) (List·Memᴰ·append-cases ps m)
+pub within-one : (s ps : List ℕ) (i : ℕ) → Within s ps → isVisible (modules s) i ≡ true → Within s (ps ++ (i ∷ []))
+within-one s ps i w l p m = ⊎-elim (λ h. w p h) (λ h. subst (λ (x : ℕ). isVisible (modules s) x ≡ true) (sym (List·Memᴰ·eq-of-singleton h)) l) (List·Memᴰ·append-cases ps m)
 
 -- the line of positions stands for this line of modules, where those at ps are resolved
 pub record Waits (s q : List ℕ) (inRound : Bool) (ps : List ℕ) (l : Line) (k : Short.Line) : Type 0 where
@@ -123,7 +123,7 @@ module _ (s q : List ℕ) (n : ℕ) (t ws : List ℕ) (g : Given s q n t ws) whe
   absent-at x ps w a = by (hasModule (modulesAt s ps) x)
       (λ h. let r = any-out (λ (m : Descriptor). sameBytes (m .name) x) (modulesAt s ps) h in
       let y = map-out (moduleAt (modules s)) ps (r .1) in
-      true≠false (any-in (λ (m : Descriptor). sameBytes (m .name) x) (at-mem (modules s) (y .0) (w (y .0) (y .1))) (subst (λ (m : Descriptor). sameBytes (m .name) x ≡ true) (y .2) (r .2))) a)
+      true≠false (any-in (λ (m : Descriptor). sameBytes (m .name) x) (at-mem (modules s) (y .0) (visible-in (modules s) (y .0) (w (y .0) (y .1)))) (subst (λ (m : Descriptor). sameBytes (m .name) x ≡ true) (y .2) (r .2))) a)
       (λ h. h)
 
   -- a name of the set is met just if its position is in the line
@@ -131,8 +131,7 @@ module _ (s q : List ℕ) (n : ℕ) (t ws : List ℕ) (g : Given s q n t ws) whe
       → isMet inRound old (modules s) (modulesAt s ps) (shortLine s qs h) x ≡ isOneOf (indexOf x (modules s)) (ps ++ qs)
   unfolding isMet isOneOf
   met-at inRound old x ps qs h a b o =
-      let d = set-distinct s n t (g .good) in
-      rw (o, has-at (modules s) x d o ps a, has-at (modules s) x d o qs b, and-false inRound, or-false (any (eqb (indexOf x (modules s))) qs))
+      rw (o, has-at (modules s) x o ps a, has-at (modules s) x o qs b, and-false inRound, or-false (any (eqb (indexOf x (modules s))) qs))
       (sym (any-append (eqb (indexOf x (modules s))) ps qs))
 
   queued-pass : (l : Line) → queued Pass l ≡ l
@@ -145,7 +144,7 @@ module _ (s q : List ℕ) (n : ℕ) (t ws : List ℕ) (g : Given s q n t ws) whe
       turned (Halt.Refused e) = refl
 
   -- a name of the set, by its position
-  pub queue-found : (P : Line → Lined → Type 0) (inRound : Bool) (old : Name → Bool) (x : Name) (static : Bool) (o : Place) (k : Short.Line → Lined)
+  pub queue-found : (P : Line → Lined → Type 0) (inRound : Bool) (old : Name → Bool) (x : Name) (static : Bool) (o : QueuedBy) (k : Short.Line → Lined)
       (i : ℕ) → Located x (modules s) i → (ps qs : List ℕ) (h : Option Item) → Within s ps → Within s qs
       → ((rs : List ℕ) → Within s rs → P (lineAt ps rs (haltOf s q h)) (k (shortLine s rs h)))
       → P (queued (pickWanted (isPermitted (requestOf q) x) (Add i) Pass) (lineAt ps qs (haltOf s q h)))
@@ -168,7 +167,7 @@ module _ (s q : List ℕ) (n : ℕ) (t ws : List ℕ) (g : Given s q n t ws) whe
       turned true true f e (some y) then = then qs b
       turned true false f e (some y) then = then qs b
       turned true false f e none then =
-          rw (e, f, w .is, append-assoc ps qs (i ∷ []), ← wider) (then (qs ++ (i ∷ [])) (within-one s qs i b (w .within)))
+          rw (e, f, w .is, append-assoc ps qs (i ∷ []), ← wider) (then (qs ++ (i ∷ [])) (within-one s qs i b (located-visible x (modules s) i w)))
 
   -- a name of the set or not
   module _ (inRound : Bool) (before : List ℕ) (old : Name → Bool)
@@ -180,7 +179,7 @@ module _ (s q : List ℕ) (n : ℕ) (t ws : List ℕ) (g : Given s q n t ws) whe
     unfolding locate
     locate-is x = rw (g .good .names)
 
-    pub queue-one : (P : Line → Lined → Type 0) (x : Name) (static : Bool) (o : Place) (e : ModuleError) → errorOf s q (moduleNotFound x o) ≡ e
+    pub queue-one : (P : Line → Lined → Type 0) (x : Name) (static : Bool) (o : QueuedBy) (e : ModuleError) → errorOf s q (moduleNotFound x o) ≡ e
         → (k : Short.Line → Lined) (ps qs : List ℕ) (h : Option Item) → Within s ps → Within s qs → NoHalt inRound h
         → ((rs : List ℕ) (h₂ : Option Item) → Within s rs → NoHalt inRound h₂ → P (lineAt ps rs (haltOf s q h₂)) (k (shortLine s rs h₂)))
         → ((l : Line) → l .halt ≡ Halt.Refused (errorOf s q (moduleNotFound x o)) → P l (fault x o))
@@ -208,9 +207,9 @@ module _ (s q : List ℕ) (n : ℕ) (t ws : List ℕ) (g : Given s q n t ws) whe
         absent nf false false c base m false el ec eb ed ef (some y) nh₂ = more qs (some y) b nh₂
         absent nf false false false base m false el ec eb ed ef none nh₂ = rw ec (more qs none b nh₂)
         absent nf false false true true m false el ec eb ed ef none nh₂ =
-            rw (ec, nf) (subst (λ (z : ModuleError). P (lineAt ps qs (Halt.Stop z)) (k (shortLine s qs (some (record { name = x; place = o }))))) (rw eb) (more qs (some (record { name = x; place = o })) b (λ r. true≠false r el)))
+            rw (ec, nf) (subst (λ (z : ModuleError). P (lineAt ps qs (Halt.Stop z)) (k (shortLine s qs (some (record { name = x; by = o }))))) (rw eb) (more qs (some (record { name = x; by = o })) b (λ r. true≠false r el)))
         absent nf false false true false m false el ec eb ed ef none nh₂ =
-            rw (ec, nf) (subst (λ (z : ModuleError). P (lineAt ps qs (Halt.Stop z)) (k (shortLine s qs (some (record { name = x; place = o }))))) (rw eb er) (more qs (some (record { name = x; place = o })) b (λ r. true≠false r el)))
+            rw (ec, nf) (subst (λ (z : ModuleError). P (lineAt ps qs (Halt.Stop z)) (k (shortLine s qs (some (record { name = x; by = o }))))) (rw eb er) (more qs (some (record { name = x; by = o })) b (λ r. true≠false r el)))
 
         turned : (f : Found) → locate w x ≡ f
             → P (queued (wantFound w x static e f) (lineAt ps qs (haltOf s q h)))
@@ -218,7 +217,7 @@ module _ (s q : List ℕ) (n : ℕ) (t ws : List ℕ) (g : Given s q n t ws) whe
         turned (At i) f =
             let l = located x (modules s) i (sym (locate-is x) ∙ f) in
             let pm : holds ws i ≡ isPermitted rq x
-            = g .permits i (omega (arith, l .within, set-length s n t (g .good))) ∙ ap (isPermitted rq) (find-mem x (modules s) (moduleAt (modules s) i) (l .is) .1) in
+            = g .permits i (omega (arith, l .within, set-length s n t (g .good))) ∙ ap (λ (v : Bool). v && isPermitted rq (moduleAt (modules s) i .name)) (located-visible x (modules s) i l) ∙ ap (isPermitted rq) (find-mem x (modules s) (moduleAt (modules s) i) (l .is) .1) in
             rw pm (queue-found P inRound old x static o k i l ps qs h a b (λ rs v. more rs h v nh))
         turned Nothing f =
             let l = not-located x (modules s) (sym (locate-is x) ∙ f) in
@@ -245,46 +244,47 @@ module _ (s q : List ℕ) (n : ℕ) (t ws : List ℕ) (g : Given s q n t ws) whe
     -- the records of the input from `at` on, where those of its kind have the numbers from j on
     module _ (i : Input) (reqOf : List ℕ → Requirement) (errorAt : ℕ → ℕ → ModuleError)
         (reads : (b : List ℕ) (start : ℕ) → wantRecord w i b start ≡ want w (reqOf b .name) (reqOf b .static) (errorAt (length (reqOf b .name)) start))
-        (placeOf : ℕ → Place) where
-      abbrev Placed : ℕ → ℕ → List (List ℕ) → Type 0
-      Placed j at rs = (x : Name) (m : ℕ) → errorOf s q (moduleNotFound x (placeOf (j + m))) ≡ errorAt (length x) (bodyStart (nthIn (kindFor i) m at rs))
+        (byOf : ℕ → QueuedBy) where
+      -- an absent name that number j + m queued is told at record m of the kind from `at` on
+      abbrev Recorded : ℕ → ℕ → List (List ℕ) → Type 0
+      Recorded j at rs = (x : Name) (m : ℕ) → errorOf s q (moduleNotFound x (byOf (j + m))) ≡ errorAt (length x) (bodyStart (nthIn (kindFor i) m at rs))
 
-      pub queue-row : (rs : List (List ℕ)) (j at : ℕ) → Placed j at rs → (ps qs : List ℕ) (h : Option Item) → Within s ps → Within s qs → NoHalt inRound h
+      pub queue-row : (rs : List (List ℕ)) (j at : ℕ) → Recorded j at rs → (ps qs : List ℕ) (h : Option Item) → Within s ps → Within s qs → NoHalt inRound h
           → Follows s q inRound ps (queueIn w i at rs (lineAt ps qs (haltOf s q h)))
-          (shortEnqueue inRound old (modules s) (requestOf q) placeOf (modulesAt s ps) (map reqOf (bodiesIn (kindFor i) rs)) j (shortLine s qs h))
+          (shortEnqueue inRound old (modules s) (requestOf q) byOf (modulesAt s ps) (map reqOf (bodiesIn (kindFor i) rs)) j (shortLine s qs h))
       unfolding queueIn shortEnqueue bodiesIn
-      queue-row [] j at pl ps qs h a b nh = record { queue = qs; absent = h; within = b; calm = nh; line-is = refl; short-is = refl }
-      queue-row (r ∷ rs) j at pl ps qs h a b nh = turned (isOf (kindFor i) r) refl (λ j₂ pl₂ qs₂ h₂ b₂ nh₂. queue-row rs j₂ (at + length r) pl₂ ps qs₂ h₂ a b₂ nh₂)
+      queue-row [] j at rd ps qs h a b nh = record { queue = qs; absent = h; within = b; calm = nh; line-is = refl; short-is = refl }
+      queue-row (r ∷ rs) j at rd ps qs h a b nh = turned (isOf (kindFor i) r) refl (λ j₂ rd₂ qs₂ h₂ b₂ nh₂. queue-row rs j₂ (at + length r) rd₂ ps qs₂ h₂ a b₂ nh₂)
         where
           kind : List (List ℕ) → List Requirement
           kind l = map reqOf (bodiesIn (kindFor i) l)
 
           Below : Type 0
-          Below = (j₂ : ℕ) → Placed j₂ (at + length r) rs → (qs₂ : List ℕ) (h₂ : Option Item) → Within s qs₂ → NoHalt inRound h₂
+          Below = (j₂ : ℕ) → Recorded j₂ (at + length r) rs → (qs₂ : List ℕ) (h₂ : Option Item) → Within s qs₂ → NoHalt inRound h₂
               → Follows s q inRound ps (queueIn w i (at + length r) rs (lineAt ps qs₂ (haltOf s q h₂)))
-              (shortEnqueue inRound old (modules s) (requestOf q) placeOf (modulesAt s ps) (kind rs) j₂ (shortLine s qs₂ h₂))
+              (shortEnqueue inRound old (modules s) (requestOf q) byOf (modulesAt s ps) (kind rs) j₂ (shortLine s qs₂ h₂))
 
-          later : isOf (kindFor i) r ≡ true → Placed (suc j) (at + length r) rs
+          later : isOf (kindFor i) r ≡ true → Recorded (suc j) (at + length r) rs
           later e x m =
               let y : suc j + m ≡ j + suc m = omega arith in
-              rw y (pl x (suc m) ∙ ap (λ (z : Next). errorAt (length x) (bodyStart z)) (nth-later (kindFor i) r rs at m e))
+              rw y (rd x (suc m) ∙ ap (λ (z : Next). errorAt (length x) (bodyStart z)) (nth-later (kindFor i) r rs at m e))
 
-          same : isOf (kindFor i) r ≡ false → Placed j (at + length r) rs
-          same e x m = pl x m ∙ ap (λ (z : Next). errorAt (length x) (bodyStart z)) (nth-other (kindFor i) r rs at m e)
+          same : isOf (kindFor i) r ≡ false → Recorded j (at + length r) rs
+          same e x m = rd x m ∙ ap (λ (z : Next). errorAt (length x) (bodyStart z)) (nth-other (kindFor i) r rs at m e)
 
-          here : isOf (kindFor i) r ≡ true → (x : Name) → errorOf s q (moduleNotFound x (placeOf j)) ≡ errorAt (length x) (at + 4)
+          here : isOf (kindFor i) r ≡ true → (x : Name) → errorOf s q (moduleNotFound x (byOf j)) ≡ errorAt (length x) (at + 4)
           here e x =
               let y : j ≡ j + 0 = omega arith in
-              ap (λ (z : ℕ). errorOf s q (moduleNotFound x (placeOf z))) y ∙ pl x 0 ∙ ap (errorAt (length x)) (nth-here (kindFor i) r rs at e)
+              ap (λ (z : ℕ). errorOf s q (moduleNotFound x (byOf z))) y ∙ rd x 0 ∙ ap (errorAt (length x)) (nth-here (kindFor i) r rs at e)
 
           turned : (d : Bool) → isOf (kindFor i) r ≡ d → Below
               → Follows s q inRound ps (queueIn w i (at + length r) rs (pickLine d (queued (wantRecord w i (bodyOf r) (at + 4)) (lineAt ps qs (haltOf s q h))) (lineAt ps qs (haltOf s q h))))
-              (shortEnqueue inRound old (modules s) (requestOf q) placeOf (modulesAt s ps) (map reqOf (cond d (bodyOf r ∷ bodiesIn (kindFor i) rs) (bodiesIn (kindFor i) rs))) j (shortLine s qs h))
+              (shortEnqueue inRound old (modules s) (requestOf q) byOf (modulesAt s ps) (map reqOf (cond d (bodyOf r ∷ bodiesIn (kindFor i) rs) (bodiesIn (kindFor i) rs))) j (shortLine s qs h))
           turned false e below = below j (same e) qs h b nh
           turned true e below =
               let v : Requirement = reqOf (bodyOf r) in
               rw (reads (bodyOf r) (at + 4))
-              (queue-one (λ l z. Follows s q inRound ps (queueIn w i (at + length r) rs l) z) (v .name) (v .static) (placeOf j) (errorAt (length (v .name)) (at + 4)) (here e (v .name))
-              (λ l₂. shortEnqueue inRound old (modules s) (requestOf q) placeOf (modulesAt s ps) (kind rs) (suc j) l₂) ps qs h a b nh
+              (queue-one (λ l z. Follows s q inRound ps (queueIn w i (at + length r) rs l) z) (v .name) (v .static) (byOf j) (errorAt (length (v .name)) (at + 4)) (here e (v .name))
+              (λ l₂. shortEnqueue inRound old (modules s) (requestOf q) byOf (modulesAt s ps) (kind rs) (suc j) l₂) ps qs h a b nh
               (λ qs₂ h₂ b₂ nh₂. below (suc j) (later e) qs₂ h₂ b₂ nh₂)
-              (λ l k. ap (λ (z : Line). z .halt) (row-refused i rs (at + length r) l (errorOf s q (moduleNotFound (v .name) (placeOf j))) k) ∙ k))
+              (λ l k. ap (λ (z : Line). z .halt) (row-refused i rs (at + length r) l (errorOf s q (moduleNotFound (v .name) (byOf j))) k) ∙ k))

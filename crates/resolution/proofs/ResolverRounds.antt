@@ -15,6 +15,7 @@ use Rattle.records.specs.Record.{bodies}
 use Rattle.records.specs.Descriptor.{Requirement, Descriptor, requirementOf}
 use Rattle.records.specs.Request.{Request, requestOf, isPermitted}
 use Rattle.records.specs.Set.{modules}
+use Rattle.records.specs.Finder.{foundFrom}
 use Rattle.records.specs.declared.error.ModuleError.{ModuleError}
 use Rattle.records.specs.declared.record.Kind.the-variants as Kind
 use Rattle.records.proofs.Logic.{clash, and-left}
@@ -23,19 +24,18 @@ use Rattle.resolution.specs.declared.resolver.Halt.the-variants as Halt
 use Rattle.resolution.specs.declared.resolver.Wanted.the-variants.{Add}
 use Rattle.resolution.specs.Lists.{Name, any, keep}
 use Rattle.resolution.specs.Loop.{Result, Step, after, done, failed, loop}
-use Rattle.resolution.specs.Positions.{moduleAt}
-use Rattle.resolution.specs.Resolution.{Refusal, asRequirement, candidates, find, isProvider, names, provider, providers, queueFuel, ranOut}
+use Rattle.resolution.specs.Positions.{moduleAt, isVisible}
+use Rattle.resolution.specs.Resolution.{Refusal, asRequirement, candidates, isProvider, names, observable, provider, providers, queueFuel, ranOut}
 use Rattle.resolution.specs.Resolve.{errorOf}
 use Rattle.resolution.specs.Resolver.{Inputs, Line, blockOf, hasNamed, isDone, isMetBefore, isProviderAt, namesOf, pickLine, provideAt, provideFrom, queued, requiresName, roundsAt, runAt, offeredAt, roundAt}
 use Rattle.resolution.specs.Row.{holds}
 use Rattle.resolution.specs.Short.{Lined, Short, empty, lined, metBefore, never, shortEnqueue, shortRan, shortRound, shortRoundFrom, shortRoundOn, shortRun, shortTurn}
-use Rattle.resolution.proofs.Find.{has-find, unique-of}
 use Rattle.resolution.proofs.Loop.{loop-inv}
-use Rattle.resolution.proofs.Positions.{Located, at-mem}
+use Rattle.resolution.proofs.Positions.{visible-in, visible-located}
 use Rattle.resolution.proofs.ResolverQueue.{Given, Within, haltOf, inputs, lineAt, modulesAt, queue-found, shortLine, shortState}
-use Rattle.resolution.proofs.ResolverRun.{Ended, answerAt, answerOn, any-at, any-same, has-use, index-of, provides-of, refusedWith, requires-of, run-is}
+use Rattle.resolution.proofs.ResolverRun.{Ended, answerAt, answerOn, any-at, any-same, has-use, provides-of, refusedWith, requires-of, run-is}
 use Rattle.resolution.proofs.Room.{Room, room-round, room-turn, short-same, waiting}
-use Rattle.resolution.proofs.Sets.{set-distinct, set-length}
+use Rattle.resolution.proofs.Sets.{set-length}
 
 any-map : {A B : Type 0} (f : B → Bool) (g : A → B) (l : List A) → any f (map g l) ≡ any (λ a. f (g a)) l
 unfolding any
@@ -82,28 +82,38 @@ module _ (s q : List ℕ) (n : ℕ) (t ws : List ℕ) (g : Given s q n t ws) (in
 
   -- ---- the providers
 
-  provider-is : (ps : List ℕ) → Within s ps → (i : ℕ) → i < length (modules s)
+  -- the row holds what is permitted, if it is not hidden
+  permits-is : (i : ℕ) → i < length (modules s) → holds ws i ≡ isVisible (modules s) i && isPermitted (requestOf q) (moduleAt (modules s) i .name)
+  permits-is i l = g .permits i (omega (arith, l, set-length s n t (g .good)))
+
+  permits-seen : (i : ℕ) → isVisible (modules s) i ≡ true → holds ws i ≡ isPermitted (requestOf q) (moduleAt (modules s) i .name)
+  permits-seen i v = permits-is i (visible-in (modules s) i v) ∙ ap (λ (b : Bool). b && isPermitted (requestOf q) (moduleAt (modules s) i .name)) v
+
+  provider-is : (ps : List ℕ) → Within s ps → (i : ℕ) → isVisible (modules s) i ≡ true
       → isProvider (modulesAt s ps) (requestOf q) (moduleAt (modules s) i) ≡ isProviderAt w ps i
   unfolding isProvider isProviderAt
-  provider-is ps a i l =
-      rw (g .permits i (omega (arith, l, set-length s n t (g .good))), provides-of s q n t ws g inRound before i l)
+  provider-is ps a i v =
+      rw (permits-seen i v, provides-of s q n t ws g inRound before i (visible-in (modules s) i v))
       (ap (λ (b : Bool). isPermitted (requestOf q) (moduleAt (modules s) i .name) && b) (any-same _ (hasNamed w Kind.Uses ps) (namesOf w Kind.Provides i) (λ x. has-use s q n t ws g inRound before ps a x)))
 
-  own-place : (i : ℕ) → i < length (modules s) → Located (moduleAt (modules s) i .name) (modules s) i
-  own-place i l =
-      let m : Descriptor = moduleAt (modules s) i in
-      let f : find (m .name) (modules s) ≡ some m = unique-of (modules s) (set-distinct s n t (g .good)) m (at-mem (modules s) i l) in
-      record { observable = has-find (m .name) (modules s) m f; within = l; is = f; index = index-of s q n t ws g inRound before i l }
+  -- a hidden module is no provider
+  provider-hidden : (ps : List ℕ) (i : ℕ) → i < length (modules s) → isVisible (modules s) i ≡ false → isProviderAt w ps i ≡ false
+  unfolding isProviderAt
+  provider-hidden ps i l h = rw (permits-is i l, h)
+
+  -- those of the modules from position i on that are not hidden
+  abbrev seen : ℕ → List Descriptor → List Descriptor
+  seen i ds = foundFrom (λ (m : Descriptor). m .name) (names (modules s)) i ds
 
   -- the modules from position i on
   provide-from : (ds : List Descriptor) (i j : ℕ) → i + length ds ≡ length (modules s) → ((k : ℕ) → k < length ds → moduleAt ds k ≡ moduleAt (modules s) (i + k))
       → (ps qs : List ℕ) → Within s ps → Within s qs
       → Provided s ps (provideFrom w ps (length ds) i (lineAt ps qs Halt.Open))
-      (shortEnqueue false never (modules s) (requestOf q) provider (modulesAt s ps) (map (λ (m : Descriptor). asRequirement (m .name)) (keep (isProvider (modulesAt s ps) (requestOf q)) ds)) j (shortLine s qs none))
-  unfolding provideFrom keep shortEnqueue asRequirement haltOf offeredAt
+      (shortEnqueue false never (modules s) (requestOf q) provider (modulesAt s ps) (map (λ (m : Descriptor). asRequirement (m .name)) (keep (isProvider (modulesAt s ps) (requestOf q)) (seen i ds))) j (shortLine s qs none))
+  unfolding provideFrom keep shortEnqueue asRequirement haltOf offeredAt foundFrom isVisible
   provide-from [] i j c is ps qs a b = record { queue = qs; within = b; line-is = refl; short-is = refl }
   provide-from (d ∷ ds) i j c is ps qs a b =
-      rw (here, provider-is ps a i l) (turned (isProviderAt w ps i) refl (λ j₂ qs₂ b₂. provide-from ds (suc i) j₂ (omega (arith, c)) later ps qs₂ a b₂))
+      rw here (viewed (isVisible (modules s) i) refl (λ j₂ qs₂ b₂. provide-from ds (suc i) j₂ (omega (arith, c)) later ps qs₂ a b₂))
     where
       l : i < length (modules s)
       l = omega (arith, c)
@@ -115,27 +125,34 @@ module _ (s q : List ℕ) (n : ℕ) (t ws : List ℕ) (g : Given s q n t ws) (in
       later k h = is (suc k) (omega (arith, h)) ∙ ap (moduleAt (modules s)) (omega arith)
 
       rest : List Requirement
-      rest = map (λ (m : Descriptor). asRequirement (m .name)) (keep (isProvider (modulesAt s ps) (requestOf q)) ds)
+      rest = map (λ (m : Descriptor). asRequirement (m .name)) (keep (isProvider (modulesAt s ps) (requestOf q)) (seen (suc i) ds))
 
       Below : Type 0
       Below = (j₂ : ℕ) (qs₂ : List ℕ) → Within s qs₂
           → Provided s ps (provideFrom w ps (length ds) (suc i) (lineAt ps qs₂ Halt.Open)) (shortEnqueue false never (modules s) (requestOf q) provider (modulesAt s ps) rest j₂ (shortLine s qs₂ none))
 
-      turned : (b₂ : Bool) → isProviderAt w ps i ≡ b₂ → Below
+      turned : isVisible (modules s) i ≡ true → (b₂ : Bool) → isProviderAt w ps i ≡ b₂ → Below
           → Provided s ps (provideFrom w ps (length ds) (suc i) (pickLine b₂ (queued (Add i) (lineAt ps qs Halt.Open)) (lineAt ps qs Halt.Open)))
           (shortEnqueue false never (modules s) (requestOf q) provider (modulesAt s ps)
-          (map (λ (m : Descriptor). asRequirement (m .name)) (cond b₂ (moduleAt (modules s) i ∷ keep (isProvider (modulesAt s ps) (requestOf q)) ds) (keep (isProvider (modulesAt s ps) (requestOf q)) ds))) j (shortLine s qs none))
-      turned false e below = below j qs b
-      turned true e below =
+          (map (λ (m : Descriptor). asRequirement (m .name)) (cond b₂ (moduleAt (modules s) i ∷ keep (isProvider (modulesAt s ps) (requestOf q)) (seen (suc i) ds)) (keep (isProvider (modulesAt s ps) (requestOf q)) (seen (suc i) ds)))) j (shortLine s qs none))
+      turned v false e below = below j qs b
+      turned v true e below =
           let x : Name = moduleAt (modules s) i .name in
           let p : isPermitted (requestOf q) x ≡ true
-          = sym (g .permits i (omega (arith, l, set-length s n t (g .good)))) ∙ (unfold isProviderAt in and-left (holds ws i) _ e) in
+          = sym (permits-seen i v) ∙ (unfold isProviderAt in and-left (holds ws i) _ e) in
           rw p at (queue-found s q n t ws g (λ z y. Provided s ps (provideFrom w ps (length ds) (suc i) z) y) false never x false (provider j)
-          (λ y. shortEnqueue false never (modules s) (requestOf q) provider (modulesAt s ps) rest (suc j) y) i (own-place i l) ps qs none a b (λ qs₂ b₂. below (suc j) qs₂ b₂))
+          (λ y. shortEnqueue false never (modules s) (requestOf q) provider (modulesAt s ps) rest (suc j) y) i (visible-located (modules s) i v) ps qs none a b (λ qs₂ b₂. below (suc j) qs₂ b₂))
+
+      viewed : (v : Bool) → isVisible (modules s) i ≡ v → Below
+          → Provided s ps (provideFrom w ps (length ds) (suc i) (pickLine (isProviderAt w ps i) (queued (Add i) (lineAt ps qs Halt.Open)) (lineAt ps qs Halt.Open)))
+          (shortEnqueue false never (modules s) (requestOf q) provider (modulesAt s ps)
+          (map (λ (m : Descriptor). asRequirement (m .name)) (keep (isProvider (modulesAt s ps) (requestOf q)) (cond v (moduleAt (modules s) i ∷ seen (suc i) ds) (seen (suc i) ds)))) j (shortLine s qs none))
+      viewed true e below = rw (provider-is ps a i e) (turned e (isProviderAt w ps i) refl below)
+      viewed false e below = rw (provider-hidden ps i l e) (below j qs b)
 
   provide-is : (ps : List ℕ) → Within s ps
       → Provided s ps (provideAt w (lineAt ps [] Halt.Open)) (shortEnqueue false never (modules s) (requestOf q) provider (modulesAt s ps) (providers (modules s) (requestOf q) (modulesAt s ps)) 0 empty)
-  unfolding provideAt providers empty
+  unfolding provideAt providers empty observable
   provide-is ps a =
       rw (take-append-seam ps [])
       (subst (λ (k : ℕ). Provided s ps (provideFrom w ps k 0 (lineAt ps [] Halt.Open)) (shortEnqueue false never (modules s) (requestOf q) provider (modulesAt s ps) (providers (modules s) (requestOf q) (modulesAt s ps)) 0 empty))

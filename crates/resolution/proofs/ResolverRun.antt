@@ -13,7 +13,7 @@ use Rattle.records.specs.Name.{memName}
 use Rattle.records.specs.Record.{records, bodies, nthIn}
 use Rattle.records.specs.Descriptor.{Descriptor, requirementOf, descriptorOf}
 use Rattle.records.specs.Request.{requestOf}
-use Rattle.records.specs.Set.{modules, blocks}
+use Rattle.records.specs.Set.{modules}
 use Rattle.records.specs.declared.error.Input.{Input}
 use Rattle.records.specs.declared.error.Input.the-variants as Input
 use Rattle.records.specs.declared.error.ModuleError.{ModuleError}
@@ -26,18 +26,18 @@ use Rattle.resolution.specs.declared.resolver.Halt.the-variants as Halt
 use Rattle.resolution.specs.Lists.{Mem, Name, any, keep, first}
 use Rattle.resolution.specs.Loop.{Result, Step, after, done, fail, failed, go, loop, stop}
 use Rattle.resolution.specs.Owner.{least, lesser, ownerIn, shared}
-use Rattle.resolution.specs.Positions.{moduleAt}
+use Rattle.resolution.specs.Positions.{moduleAt, isVisible}
 use Rattle.resolution.specs.Resolution.{Item, Refusal, indexOf, moduleNotFound, nameOrEmpty, ranOut, required, splitPackage}
-use Rattle.resolution.specs.Resolve.{absentOf, bodyStart, errorOf, startIn}
+use Rattle.resolution.specs.Resolve.{absentOf, bodyStart, errorOf, startIn, recordsAt}
 use Rattle.resolution.specs.Resolve as Resolve
 use Rattle.resolution.specs.Resolver.{Inputs, Line, blockOf, goesOn, handleAt, handledAt, hasNamed, isMetBefore, isOpen, kindFor, namesOf, ownerAt, positionOr, queueIn, runAt, splitAt, splitOf, startOf, wantRecord, advancedAt}
 use Rattle.resolution.specs.Short as Short
 use Rattle.resolution.specs.Short.{Lined, Short, fault, lined, shortEnqueue, shortHandled, shortTaken, shortTested, shortTurn}
 use Rattle.resolution.proofs.Lists.{keep-out, map-append}
-use Rattle.resolution.proofs.Positions.{index-at}
+use Rattle.resolution.proofs.Positions.{index-at, visible-in}
 use Rattle.resolution.proofs.ResolverQueue.{Follows, Given, NoHalt, Within, haltOf, inputs, lineAt, modulesAt, queue-row, shortLine, shortState, within-one}
 use Rattle.resolution.proofs.Room.{waiting, waiting-falls}
-use Rattle.resolution.proofs.Sets.{module-block, set-distinct, set-length}
+use Rattle.resolution.proofs.Sets.{module-block, set-length}
 
 -- ---- what a line stands for, and its answer
 
@@ -101,7 +101,7 @@ pub any-at : (s : List ℕ) (f : Descriptor → Bool) (g : ℕ → Bool) (ps : L
     → ((p : ℕ) → p < length (modules s) → f (moduleAt (modules s) p) ≡ g p) → any f (modulesAt s ps) ≡ any g ps
 unfolding any
 any-at s f g [] w h = refl
-any-at s f g (p ∷ ps) w h = rw (h p (w p (List·Memᴰ·head refl)), any-at s f g ps (λ x m. w x (List·Memᴰ·tail m)) h)
+any-at s f g (p ∷ ps) w h = rw (h p (visible-in (modules s) p (w p (List·Memᴰ·head refl))), any-at s f g ps (λ x m. w x (List·Memᴰ·tail m)) h)
 
 least-in : (l : List Name) (x : Name) → least l ≡ some x → Mem x l
 unfolding least
@@ -147,18 +147,18 @@ module _ (s q : List ℕ) (n : ℕ) (t ws : List ℕ) (g : Given s q n t ws) whe
     unfolding startIn startOf
     start-of p = rw (g .table)
 
-    records-of : (p : ℕ) → p < length (modules s) → records (getD (blocks s) p []) ≡ records (blockOf v p)
-    unfolding blockOf
-    records-of p l = ap records (sym (g .good .block-is p (omega (arith, l, set-length s n t (g .good)))))
+    records-of : (p : ℕ) → recordsAt s p ≡ records (blockOf v p)
+    unfolding recordsAt blockOf
+    records-of p = rw (g .table)
 
     -- where requirement m of the module at p stands
-    required-at : (p : ℕ) → p < length (modules s) → (x : Name) (m : ℕ)
+    required-at : (p : ℕ) (x : Name) (m : ℕ)
         → errorOf s q (moduleNotFound x (required p m)) ≡ ModuleNotFound Input.Set (bodyStart (nthIn Kind.Requires m (startOf v p) (records (blockOf v p))) + 3) (length x)
     unfolding errorOf absentOf
-    required-at p l x m = rw (start-of p, records-of p l)
+    required-at p x m = rw (start-of p, records-of p)
 
-    pub index-of : (p : ℕ) → p < length (modules s) → indexOf (moduleAt (modules s) p .name) (modules s) ≡ p
-    index-of p l = index-at (modules s) p (set-distinct s n t (g .good)) l
+    pub index-of : (p : ℕ) → isVisible (modules s) p ≡ true → indexOf (moduleAt (modules s) p .name) (modules s) ≡ p
+    index-of p l = index-at (modules s) p l
 
     -- ---- the packages
 
@@ -180,7 +180,7 @@ module _ (s q : List ℕ) (n : ℕ) (t ws : List ℕ) (g : Given s q n t ws) whe
     unfolding hasNamed any ownerIn ownerAt first
     owner-at x [] w h = true≠false h refl
     owner-at x (p ∷ ps) w h =
-        rw (packages-of p (w p (List·Memᴰ·head refl))) (turned (memName x (namesOf v Kind.Package p)) (owner-at x ps (λ y m. w y (List·Memᴰ·tail m))) h)
+        rw (packages-of p (visible-in (modules s) p (w p (List·Memᴰ·head refl)))) (turned (memName x (namesOf v Kind.Package p)) (owner-at x ps (λ y m. w y (List·Memᴰ·tail m))) h)
       where
         turned : (b : Bool) → (hasNamed v Kind.Package ps x ≡ true → indexOf (nameOrEmpty (ownerIn (modulesAt s ps) x)) (modules s) ≡ positionOr (ownerAt v ps x))
             → (b || hasNamed v Kind.Package ps x) ≡ true
@@ -189,12 +189,12 @@ module _ (s q : List ℕ) (n : ℕ) (t ws : List ℕ) (g : Given s q n t ws) whe
         turned false below k = below k
 
     -- the refusal of a package with two owners
-    split-at : (ps : List ℕ) (p : ℕ) (x : Name) → Within s ps → p < length (modules s) → least (keep (hasNamed v Kind.Package ps) (namesOf v Kind.Package p)) ≡ some x
+    split-at : (ps : List ℕ) (p : ℕ) (x : Name) → Within s ps → isVisible (modules s) p ≡ true → least (keep (hasNamed v Kind.Package ps) (namesOf v Kind.Package p)) ≡ some x
         → splitOf v ps p (some x) ≡ Halt.Refused (errorOf s q (splitPackage x (nameOrEmpty (ownerIn (modulesAt s ps) x)) (moduleAt (modules s) p .name)))
     unfolding splitOf errorOf Resolve.splitOf
     split-at ps p x w l e =
         let o : hasNamed v Kind.Package ps x ≡ true = keep-out (hasNamed v Kind.Package ps) (namesOf v Kind.Package p) (least-in _ x e) .1 in
-        rw (owner-at x ps w o, index-of p l, start-of p, records-of p l)
+        rw (owner-at x ps w o, index-of p l, start-of p, records-of p)
 
   -- ---- a turn
 
@@ -219,24 +219,24 @@ module _ (s q : List ℕ) (n : ℕ) (t ws : List ℕ) (g : Given s q n t ws) whe
         }
 
     -- the requirements of the module at p, which is resolved
-    requires-is : (ps : List ℕ) (p : ℕ) (qs : List ℕ) (h : Option Item) → Within s ps → p < length (modules s) → Within s qs → NoHalt inRound h
+    requires-is : (ps : List ℕ) (p : ℕ) (qs : List ℕ) (h : Option Item) → Within s ps → isVisible (modules s) p ≡ true → Within s qs → NoHalt inRound h
         → Follows s q inRound (ps ++ (p ∷ [])) (queueIn w Input.Set (startOf w p) (records (blockOf w p)) (lineAt (ps ++ (p ∷ [])) qs (haltOf s q h)))
         (shortEnqueue inRound old (modules s) (requestOf q) (required p) (modulesAt s (ps ++ (p ∷ []))) (moduleAt (modules s) p .requires) 0 (shortLine s qs h))
     unfolding bodies kindFor
     requires-is ps p qs h a l b nh =
-        rw (requires-of inRound before p l)
+        rw (requires-of inRound before p (visible-in (modules s) p l))
         (queue-row s q n t ws g inRound before old past Input.Set requirementOf (λ len start. ModuleNotFound Input.Set (start + 3) len) (λ c start. unfold wantRecord in refl) (required p)
         (records (blockOf w p)) 0 (startOf w p)
-        (λ x m. let y : 0 + m ≡ m = omega arith in rw y (required-at inRound before p l x m))
+        (λ x m. let y : 0 + m ≡ m = omega arith in rw y (required-at inRound before p x m))
         (ps ++ (p ∷ [])) qs h (within-one s ps p a l) b nh)
 
     pub turn-is : (ps : List ℕ) (p : ℕ) (qs : List ℕ) (h : Option Item) → Within s ps → Within s (p ∷ qs) → NoHalt inRound h
         → Turned s q inRound (handleAt w (lineAt ps (p ∷ qs) (haltOf s q h))) (shortTurn inRound old (modules s) (requestOf q) (shortState s ps (p ∷ qs) h))
     unfolding handleAt handledAt splitAt splitOf shortTurn shortTaken shortTested advancedAt
     turn-is ps p qs h a b nh =
-        rw (getD-append-seam ps p qs 0, take-append-seam ps (p ∷ qs), shared-at inRound before ps p a l) (turned (least (keep (hasNamed w Kind.Package ps) (namesOf w Kind.Package p))) refl)
+        rw (getD-append-seam ps p qs 0, take-append-seam ps (p ∷ qs), shared-at inRound before ps p a (visible-in (modules s) p l)) (turned (least (keep (hasNamed w Kind.Package ps) (namesOf w Kind.Package p))) refl)
       where
-        l : p < length (modules s)
+        l : isVisible (modules s) p ≡ true
         l = b p (List·Memᴰ·head refl)
 
         m : Descriptor

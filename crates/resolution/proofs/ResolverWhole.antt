@@ -2,7 +2,7 @@
 use mathlib.Core.Path.{_≡_, refl, sym, ap, _∙_, subst}
 use Prim.Native.Nat.{ℕ, suc, _+_, _≤_, _<_}
 use native.Mathlib.Omega.{arith}
-use mathlib.Core.Bool.{Bool, true, false}
+use mathlib.Core.Bool.{Bool, true, false, _&&_}
 use mathlib.Core.Option.{none}
 use mathlib.Core.List.{List, [], _∷_, _++_, map, append-nil, List·Memᴰ·head, List·Memᴰ·tail, List·Memᴰ·not-nil}
 use lib.ListN.{length}
@@ -21,7 +21,7 @@ use Rattle.records.proofs.Logic.{true≠false}
 use Rattle.resolution.specs.declared.resolver.Halt.the-variants as Halt
 use Rattle.resolution.specs.Lists.{Mem, Name, any}
 use Rattle.resolution.specs.Loop.{Result, done, failed, loop, mapDone}
-use Rattle.resolution.specs.Positions.{moduleAt}
+use Rattle.resolution.specs.Positions.{moduleAt, isVisible}
 use Rattle.resolution.specs.Resolution.{Refusal, State, asRequirement, base, choose, find, hasModule, indexOf, moduleNotFound, ranOut, resolve, root}
 use Rattle.resolution.specs.Resolve.{absentOf, errorOf}
 use Rattle.resolution.specs.Resolver.{Inputs, Line, frontAt, inRounds, isMetBefore, kindFor, pickLine, queued, resolveAt, rootsAt, roundsAt, runAt, thenRounds, want, wantRecord, firstAt, startOn}
@@ -37,7 +37,8 @@ use Rattle.resolution.proofs.ResolverQueue.{Follows, Given, Waits, With
 use Rattle.resolution.proofs.ResolverRun.{Answer, Ended, Rests, answerAt, answerOn, positions, refusedWith, run-is, run-refused}
 use Rattle.resolution.proofs.ResolverRounds.{fuel-is, met-is, room-waits, rounds-are, rounds-refused, run-room}
 use Rattle.resolution.proofs.Room.{Room, room-seeds, waiting}
-use Rattle.resolution.proofs.Sets.{set-distinct, set-length, set-short}
+use Rattle.resolution.proofs.Sets.{set-length}
+use Rattle.resolution.proofs.Short.{short-resolve}
 
 map-map : {A B C : Type 0} (f : A → B) (g : B → C) (l : List A) → map g (map f l) ≡ map (λ (x : A). g (f x)) l
 map-map f g [] = refl
@@ -63,7 +64,7 @@ module _ (s q : List ℕ) (n : ℕ) (t ws : List ℕ) (g : Given s q n t ws) whe
     where
       turned : (b : Bool)
           → shortNext (requestOf q) (modules s) (choose false false b false) javaBase base (shortLine s [] none) lined
-          ≡ lined (push (shortLine s [] none) true (find javaBase (modules s)) (record { name = javaBase; place = base }))
+          ≡ lined (push (shortLine s [] none) true (find javaBase (modules s)) (record { name = javaBase; by = base }))
       turned true = rw (base-permitted (requestOf q))
       turned false = rw (base-permitted (requestOf q))
 
@@ -146,30 +147,31 @@ pub record Accepts (s : List ℕ) (n : ℕ) (l : Line) (ms : List Descriptor) : 
   pub accepts : l .halt ≡ Halt.Open
   pub all : l .head ≡ length (l .order)
   pub within : (p : ℕ) → Mem p (l .order) → p < n
+  pub visible : (p : ℕ) → Mem p (l .order) → isVisible (modules s) p ≡ true
   pub once : allDiffer (l .order) ≡ true
   pub few : length (l .order) ≤ n
   pub modules-are : ms ≡ map (moduleAt (modules s)) (l .order)
   pub order-is : l .order ≡ map (λ (m : Descriptor). indexOf (m .name) (modules s)) ms
 
 module _ (s q : List ℕ) (n : ℕ) (t : List ℕ) (e : checkSet s ≡ record { answer = Modules n; starts = t })
-    (ws : List ℕ) (permits : (i : ℕ) → i < n → holds ws i ≡ isPermitted (requestOf q) (moduleAt (modules s) i .name)) where
+    (ws : List ℕ) (permits : (i : ℕ) → i < n → holds ws i ≡ isVisible (modules s) i && isPermitted (requestOf q) (moduleAt (modules s) i .name)) where
   given : Given s q n t ws
   given = record { good = good-set s n t e; table = ap (λ (c : Checked). c .starts) e; permits = permits }
 
   -- a position is that of its module
   own-positions : (ps : List ℕ) → Within s ps → map (λ (m : Descriptor). indexOf (m .name) (modules s)) (modulesAt s ps) ≡ ps
   own-positions [] a = refl
-  own-positions (p ∷ ps) a = rw (index-at (modules s) p (set-distinct s n t (given .good)) (a p (List·Memᴰ·head refl)), own-positions ps (λ x m. a x (List·Memᴰ·tail m)))
+  own-positions (p ∷ ps) a = rw (index-at (modules s) p (a p (List·Memᴰ·head refl)), own-positions ps (λ x m. a x (List·Memᴰ·tail m)))
 
   resolve-ends : Ended s q (resolveAt (startOn s q n t ws)) (mapDone (shortOf (modules s) (requestOf q)) (resolve (modules s) (requestOf q)))
-  resolve-ends = subst (Ended s q (resolveAt (startOn s q n t ws))) (set-short s n t (given .good) (requestOf q)) (ends s q n t ws given real)
+  resolve-ends = subst (Ended s q (resolveAt (startOn s q n t ws))) (short-resolve (modules s) (requestOf q)) (ends s q n t ws given real)
     where
       out : (r : Result State Refusal) → resolve (modules s) (requestOf q) ≡ r → mapDone (shortOf (modules s) (requestOf q)) r ≡ failed ranOut → ⊥
       out (failed a) k h = unfold mapDone in never-out (modules s) (requestOf q) (k ∙ ap failed (cc))
       out (done st) k h = unfold mapDone in failed≠done (sym h)
 
       real : shortResolve (modules s) (requestOf q) ≡ failed ranOut → ⊥
-      real h = out (resolve (modules s) (requestOf q)) refl (sym (set-short s n t (given .good) (requestOf q)) ∙ h)
+      real h = out (resolve (modules s) (requestOf q)) refl (sym (short-resolve (modules s) (requestOf q)) ∙ h)
 
   accepts-of : (l : Line) (st : State) → InOrder n l → Rests s l (shortOf (modules s) (requestOf q) st) → Accepts s n l (st .resolved)
   accepts-of l st o r =
@@ -179,6 +181,7 @@ module _ (s q : List ℕ) (n : ℕ) (t : List ℕ) (e : checkSet s ≡ record { 
         accepts = ap (λ (x : Line). x .halt) (r .line-is);
         all = ap (λ (x : Line). x .head) (r .line-is) ∙ ap length (sym order);
         within = o .within;
+        visible = λ p m. r .within p (subst (λ (x : List ℕ). Mem p x) order m);
         once = o .once;
         few = in-order-room n l o;
         modules-are = rw (same, order);

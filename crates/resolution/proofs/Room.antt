@@ -16,7 +16,7 @@ use Rattle.records.proofs.Logic.{by, or-left, or-right, true≠false}
 use Rattle.resolution.specs.Lists.{Mem, Name, any}
 use Rattle.resolution.specs.Loop.{go, loop}
 use Rattle.resolution.specs.Owner.{least, shared}
-use Rattle.resolution.specs.Resolution.{Choice, Item, Place, add, asRequirement, base, choose, find, hasModule, indexOf, names, pass, provider, providers, ranOut, refuse, required, root}
+use Rattle.resolution.specs.Resolution.{Choice, Item, QueuedBy, add, asRequirement, base, choose, find, hasModule, indexOf, names, pass, provider, providers, ranOut, refuse, required, root}
 use Rattle.resolution.specs.Short.{Line, Lined, Short, empty, fault, isMet, lined, never, push, pushed, shortBase, shortEnqueue, shortHandled, shortNext, shortTaken, shortTested, shortTurn}
 use Rattle.resolution.proofs.Accepted.{base-permitted}
 use Rattle.resolution.proofs.Enqueue.{fresh, fresh-lt}
@@ -27,27 +27,27 @@ use Rattle.resolution.proofs.Loop.{fail≠go, loop-same, stop≠go}
 
 -- ---- the law of queueing in the line, as that of the queue
 
-module _ (inRound : Bool) (old : Name → Bool) (s : List Descriptor) (rq : Request) (placeOf : ℕ → Place) (ms : List Descriptor) where
+module _ (inRound : Bool) (old : Name → Bool) (s : List Descriptor) (rq : Request) (byOf : ℕ → QueuedBy) (ms : List Descriptor) where
   pub short-enqueue-inv : (P : Line → Type 0) (rs : List Requirement) (j : ℕ) (l l₂ : Line)
-      → ((r : Requirement) (i : ℕ) (k : Line) → Mem r rs → isMet inRound old s ms k (r .name) ≡ false → P k → P (push k (isPermitted rq (r .name)) (find (r .name) s) (record { name = r .name; place = placeOf i })))
-      → P l → shortEnqueue inRound old s rq placeOf ms rs j l ≡ lined l₂ → P l₂
+      → ((r : Requirement) (i : ℕ) (k : Line) → Mem r rs → isMet inRound old s ms k (r .name) ≡ false → P k → P (push k (isPermitted rq (r .name)) (find (r .name) s) (record { name = r .name; by = byOf i })))
+      → P l → shortEnqueue inRound old s rq byOf ms rs j l ≡ lined l₂ → P l₂
   unfolding shortEnqueue
   short-enqueue-inv P [] j l l₂ adds p e = let same : l ≡ l₂ = cc in subst P same p
   short-enqueue-inv P (r ∷ rs) j l l₂ adds p e = turned (isMet inRound old s ms l (r .name)) refl e (λ k q h. short-enqueue-inv P rs (suc j) k l₂ (λ r₂ i z m. adds r₂ i z (List·Memᴰ·tail m)) q h)
     where
       more : Line → Lined
-      more k = shortEnqueue inRound old s rq placeOf ms rs (suc j) k
+      more k = shortEnqueue inRound old s rq byOf ms rs (suc j) k
 
       Below : Type 0
       Below = (k : Line) → P k → more k ≡ lined l₂ → P l₂
 
-      chosen : isMet inRound old s ms l (r .name) ≡ false → (c : Choice) → shortNext rq s c (r .name) (placeOf j) l more ≡ lined l₂ → Below → P l₂
+      chosen : isMet inRound old s ms l (r .name) ≡ false → (c : Choice) → shortNext rq s c (r .name) (byOf j) l more ≡ lined l₂ → Below → P l₂
       chosen h pass k below = below l p k
       chosen h add k below = below _ (adds r j l (List·Memᴰ·head refl) h p) k
       chosen h refuse k below = absurd (let z : _≡_ {A = ℕ} 0 1 = cc in omega arith)
 
       turned : (b : Bool) → isMet inRound old s ms l (r .name) ≡ b
-          → shortNext rq s (choose inRound b (hasModule s (r .name)) (r .static)) (r .name) (placeOf j) l more ≡ lined l₂ → Below → P l₂
+          → shortNext rq s (choose inRound b (hasModule s (r .name)) (r .static)) (r .name) (byOf j) l more ≡ lined l₂ → Below → P l₂
       turned true h k below = below l p k
       turned false h k below = chosen h (choose inRound false (hasModule s (r .name)) (r .static)) k below
 
@@ -76,9 +76,9 @@ module _ (s : List Descriptor) (rq : Request) (most : ℕ) where
   not-in l n h = sym (has-names l n) ∙ h
 
   -- what comes to the line has room
-  room-push : (inRound : Bool) (old : Name → Bool) (ms : List Descriptor) (l : Line) (n : Name) (o : Place) → isMet inRound old s ms l n ≡ false
+  room-push : (inRound : Bool) (old : Name → Bool) (ms : List Descriptor) (l : Line) (n : Name) (o : QueuedBy) → isMet inRound old s ms l n ≡ false
       → Room s most (ms ++ l .todo)
-      → Room s most (ms ++ push l (isPermitted rq n) (find n s) (record { name = n; place = o }) .todo)
+      → Room s most (ms ++ push l (isPermitted rq n) (find n s) (record { name = n; by = o }) .todo)
   unfolding push isMet
   room-push inRound old ms l n o h r = turned (l .halt) (isPermitted rq n) (find n s) refl
     where
@@ -90,7 +90,7 @@ module _ (s : List Descriptor) (rq : Request) (most : ℕ) where
           (List·Memᴰ·append-cases ms (y .1))) (λ k. k)
 
       turned : (q : Option Item) (b : Bool) (f : Option Descriptor) → find n s ≡ f
-          → Room s most (ms ++ pushed q (l .todo) b f (record { name = n; place = o }) .todo)
+          → Room s most (ms ++ pushed q (l .todo) b f (record { name = n; by = o }) .todo)
       turned (some x) b f e = unfold pushed in r
       turned none false f e = unfold pushed in r
       turned none true none e = unfold pushed in r
@@ -99,11 +99,11 @@ module _ (s : List Descriptor) (rq : Request) (most : ℕ) where
           subst (Room s most) (append-assoc ms (l .todo) (m ∷ [])) (room-one (ms ++ l .todo) m (x .0) (subst (λ (z : Name). memName z (names (ms ++ l .todo)) ≡ false) (sym (x .1)) (not-in (ms ++ l .todo) n fresh-name)) r))
 
   -- queueing a row of requirements keeps the room
-  pub room-enqueue : (inRound : Bool) (old : Name → Bool) (placeOf : ℕ → Place) (ms : List Descriptor) (rs : List Requirement) (j : ℕ) (l l₂ : Line)
-      → Room s most (ms ++ l .todo) → shortEnqueue inRound old s rq placeOf ms rs j l ≡ lined l₂ → Room s most (ms ++ l₂ .todo)
-  room-enqueue inRound old placeOf ms rs j l l₂ r e =
-      short-enqueue-inv inRound old s rq placeOf ms (λ x. Room s most (ms ++ x .todo)) rs j l l₂
-      (λ x i y a b c. room-push inRound old ms y (x .name) (placeOf i) b c) r e
+  pub room-enqueue : (inRound : Bool) (old : Name → Bool) (byOf : ℕ → QueuedBy) (ms : List Descriptor) (rs : List Requirement) (j : ℕ) (l l₂ : Line)
+      → Room s most (ms ++ l .todo) → shortEnqueue inRound old s rq byOf ms rs j l ≡ lined l₂ → Room s most (ms ++ l₂ .todo)
+  room-enqueue inRound old byOf ms rs j l l₂ r e =
+      short-enqueue-inv inRound old s rq byOf ms (λ x. Room s most (ms ++ x .todo)) rs j l l₂
+      (λ x i y a b c. room-push inRound old ms y (x .name) (byOf i) b c) r e
 
   -- a turn of the line keeps the room
   pub room-turn : (inRound : Bool) (old : Name → Bool) (st t : Short) → Room s most (st .resolved ++ st .line .todo)
@@ -150,7 +150,7 @@ room-seeds s rq l e = room-enqueue s rq (length s) false never root [] (map asRe
     front : (b : Bool) → Room s (length s) (shortBase rq s b .todo)
     front true = unfold shortBase empty in room-none s
     front false = unfold shortBase in
-        (subst (λ (c : Bool). Room s (length s) (push empty c (find javaBase s) (record { name = javaBase; place = base }) .todo)) (base-permitted rq)
+        (subst (λ (c : Bool). Room s (length s) (push empty c (find javaBase s) (record { name = javaBase; by = base }) .todo)) (base-permitted rq)
         (room-push s rq (length s) false never [] empty javaBase base (unfold isMet empty hasModule any in refl) (unfold empty in room-none s)))
 
 -- resolved and waiting are no more than the modules of the set

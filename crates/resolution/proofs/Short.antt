@@ -12,16 +12,16 @@ use Rattle.records.specs.Bytes.{sameBytes}
 use Rattle.records.specs.Descriptor.{Descriptor, Requirement}
 use Rattle.records.specs.Name.{javaBase, memName}
 use Rattle.records.specs.Request.{Request, isPermitted}
-use Rattle.records.specs.Set.{distinct}
 use Rattle.records.proofs.Logic.{and-both, and-left, and-right, by, not-of-false, or-cases, or-left, or-right, true≠false}
 use Rattle.resolution.specs.Closed.{Member}
 use Rattle.resolution.specs.Lists.{Mem, Name, any, keep}
 use Rattle.resolution.specs.Loop.{Result, Step, done, failed, go, mapDone}
-use Rattle.resolution.specs.Resolution.{Enqueued, Item, Refusal, State, add, asRequirement, base, baseMet, baseQueue, choose, enqueue, enqueued, find, hasModule, indexOf, isProvider, missing, names, provider, providers, queueFuel, ran, ranOut, required, resolve, root, round, roundOn, rounds, runQueue, seeds, started, taken, turn}
+use Rattle.resolution.specs.Resolution.{Enqueued, Item, Refusal, State, add, asRequirement, base, baseMet, baseQueue, choose, enqueue, enqueued, find, hasModule, indexOf, isProvider, missing, observable, provider, providers, queueFuel, ran, ranOut, required, resolve, root, round, roundOn, rounds, runQueue, seeds, started, taken, turn}
 use Rattle.resolution.specs.Short.{Line, Lined, Short, empty, lineOf, metBefore, never, put, shortBase, shortEnqueue, shortOf, shortRan, shortResolve, shortRound, shortRoundFrom, shortRoundOn, shortRounds, shortRun, shortStarted}
 use Rattle.resolution.proofs.Accepted.{Rest, base-permitted, first-front, round-keeps, round-start, run-inv, seeds-inv, trivial}
 use Rattle.resolution.proofs.Enqueue.{enqueue-inv, item, met-cases}
-use Rattle.resolution.proofs.Find.{Unique, has-find, unique-of}
+use Rattle.resolution.proofs.Find.{has-find}
+use Rattle.resolution.proofs.Observable.{observable-found}
 use Rattle.resolution.proofs.Follow.{Good, Past, run-follows, run-past}
 use Rattle.resolution.proofs.Fuel.{providers-in, round-size, rounds-fuel, seeds-size, size}
 use Rattle.resolution.proofs.Line.{Ready, Whatever, past-add, put-empty, short-enqueue-view, view}
@@ -126,7 +126,7 @@ module _ (s : List Descriptor) (rq : Request) where
 
 -- ---- a round
 
-module _ (s : List Descriptor) (rq : Request) (unique : Unique s) (old : Name → Bool) where
+module _ (s : List Descriptor) (rq : Request) (old : Name → Bool) where
   abbrev Between : State → Type 0
   Between st = Rest s rq Whatever st × Past s rq true old (st .met)
 
@@ -144,18 +144,18 @@ module _ (s : List Descriptor) (rq : Request) (unique : Unique s) (old : Name �
     where
       one : (r : Requirement) (i : ℕ) → Mem r (providers s rq ms) → Fits (item (r .name) (provider i))
       one r i h = unfold providers asRequirement isProvider in
-          (let x = map-out (λ (m : Descriptor). asRequirement (m .name)) (keep (isProvider ms rq) s) h in
+          (let x = map-out (λ (m : Descriptor). asRequirement (m .name)) (keep (isProvider ms rq) (observable s)) h in
           let m : Descriptor = x .0 in
-          let y = keep-out (isProvider ms rq) s (x .1) in
+          let y = keep-out (isProvider ms rq) (observable s) (x .1) in
           let n : r .name ≡ m .name = ap (λ (z : Requirement). z .name) (x .2) in
-          (subst (λ (z : Name). isPermitted rq z ≡ true) (sym n) (and-left (isPermitted rq (m .name)) _ (y .1)), m, subst (λ (z : Name). find z s ≡ some m) (sym n) (unique m (y .0))))
+          (subst (λ (z : Name). isPermitted rq z ≡ true) (sym n) (and-left (isPermitted rq (m .name)) _ (y .1)), m, subst (λ (z : Name). find z s ≡ some m) (sym n) (observable-found s m (y .0))))
 
   round-past : (ms : List Descriptor) (met met₂ : List Name) (q : List Item) → enqueue false s provider (providers s rq ms) 0 met [] ≡ enqueued met₂ q
       → Past s rq true old met → Past s rq true old met₂
   round-past ms met met₂ q e p =
       enqueue-inv false s provider (λ mt w. Past s rq true old mt) (providers s rq ms) 0 met [] met₂ q
       (λ r i mt w h new c g lt. let y = providers-in s rq ms r h in
-      past-add s old (r .name) mt (subst (λ (z : Name). hasModule s z ≡ true) (sym (y .2)) (has-find (y .0 .name) s (y .0) (unique (y .0) (y .1)))) (g lt)) p e
+      past-add s old (r .name) mt (subst (λ (z : Name). hasModule s z ≡ true) (sym (y .2)) (has-find (y .0 .name) s (y .0) (observable-found s (y .0) (y .1)))) (g lt)) p e
 
   head-waits : (e : Item) (q : List Item) (m : Descriptor) → isPermitted rq (e .name) ≡ true → find (e .name) s ≡ some m
       → lineOf s rq (e ∷ q) .todo ≡ m ∷ lineOf s rq q .todo
@@ -171,7 +171,7 @@ module _ (s : List Descriptor) (rq : Request) (unique : Unique s) (old : Name �
   start : (st : State) → Between st → (met : List Name) (q : List Item)
       → enqueue false s provider (providers s rq (st .resolved)) 0 (st .met) [] ≡ enqueued met q
       → Invariant s rq Whatever (record { resolved = st .resolved; met = met; queue = q })
-  start st g met q e = round-start s rq Whatever (trivial s rq) unique st (g .0) met q e
+  start st g met q e = round-start s rq Whatever (trivial s rq) st (g .0) met q e
 
   round-follows : (st : State) → Between st → Follow (shortOf s rq) (shortOf s rq st) (shortRound old s rq (shortOf s rq st)) (round s rq st)
   unfolding shortRound round Fits lineOf
@@ -212,7 +212,7 @@ module _ (s : List Descriptor) (rq : Request) (unique : Unique s) (old : Name �
 
   between-keeps : (st t : State) → Between st → round s rq st ≡ go t → Between t
   unfolding round roundOn ran
-  between-keeps st t g h = (unfold round in round-keeps s rq Whatever (trivial s rq) unique st t (g .0) h, turned _ refl h)
+  between-keeps st t g h = (unfold round in round-keeps s rq Whatever (trivial s rq) st t (g .0) h, turned _ refl h)
     where
       ended : (st₂ : State) → Past s rq true old (st₂ .met) → (r : Result State Refusal) → runQueue true s rq st₂ ≡ r → ran r ≡ go t
           → Past s rq true old (t .met)
@@ -227,7 +227,7 @@ module _ (s : List Descriptor) (rq : Request) (unique : Unique s) (old : Name �
 
 -- ---- the whole
 
-module _ (s : List Descriptor) (rq : Request) (unique : Unique s) where
+module _ (s : List Descriptor) (rq : Request) where
   base-line : (b : Bool) → shortBase rq s b ≡ lineOf s rq (baseQueue b)
   unfolding shortBase baseQueue lineOf
   base-line true = refl
@@ -237,8 +237,8 @@ module _ (s : List Descriptor) (rq : Request) (unique : Unique s) where
       → shortRounds s rq (done (shortOf s rq st)) ≡ mapDone (shortOf s rq) (rounds s rq (done st))
   unfolding shortRounds rounds
   rounds-follow st r p =
-      loop-view (round s rq) (shortRound (metBefore rq (st .resolved)) s rq) ranOut (shortOf s rq) (Between s rq unique (metBefore rq (st .resolved)))
-      (between-keeps s rq unique (metBefore rq (st .resolved))) (round-follows s rq unique (metBefore rq (st .resolved))) (suc (length s)) (suc (length s)) (omega arith) st (r, p)
+      loop-view (round s rq) (shortRound (metBefore rq (st .resolved)) s rq) ranOut (shortOf s rq) (Between s rq (metBefore rq (st .resolved)))
+      (between-keeps s rq (metBefore rq (st .resolved))) (round-follows s rq (metBefore rq (st .resolved))) (suc (length s)) (suc (length s)) (omega arith) st (r, p)
       (rounds-fuel s rq (suc (length s)) (omega arith) st)
 
   short-is : shortResolve s rq ≡ mapDone (shortOf s rq) (resolve s rq)
@@ -267,5 +267,5 @@ module _ (s : List Descriptor) (rq : Request) (unique : Unique s) where
           ∙ ended (record { resolved = []; met = met; queue = q }) (seeds-inv s rq Whatever (trivial s rq) met q e) (seeds-why s rq met q e) _ refl)
 
 -- the short form is `resolve`, refusals included
-pub short-resolve : (s : List Descriptor) (rq : Request) → distinct (names s) ≡ true → shortResolve s rq ≡ mapDone (shortOf s rq) (resolve s rq)
-short-resolve s rq d = short-is s rq (unique-of s d)
+pub short-resolve : (s : List Descriptor) (rq : Request) → shortResolve s rq ≡ mapDone (shortOf s rq) (resolve s rq)
+short-resolve s rq = short-is s rq

@@ -10,24 +10,24 @@ use Rattle.records.specs.Bytes.{sameBytes}
 use Rattle.records.specs.Descriptor.{Descriptor}
 use Rattle.records.specs.Name.{allUnnamed, memName}
 use Rattle.records.specs.Request.{Request, hasRead}
-use Rattle.records.specs.Set.{distinct}
 use Rattle.records.proofs.Logic.{true≠false}
 use Rattle.resolution.specs.Closed.{Accepted, Closed, Kept, Member, Wider}
 use Rattle.resolution.specs.Lists.{Mem, Name}
 use Rattle.resolution.specs.Loop.{done}
 use Rattle.resolution.specs.Owner.{named, owner, ownerIn}
 use Rattle.resolution.specs.Reads.{directReads, impliedReads, reads, readsFrom, requiredNames, transitiveNames, transitiveOf}
-use Rattle.resolution.specs.Resolution.{State, find, hasModule, names, resolve}
+use Rattle.resolution.specs.Resolution.{State, find, hasModule, observable, resolve}
 use Rattle.resolution.proofs.Accepted.{accepted}
-use Rattle.resolution.proofs.Find.{find-in, find-mem, has-find, has-some, unique-of}
+use Rattle.resolution.proofs.Find.{find-in, find-mem, has-find, has-some}
+use Rattle.resolution.proofs.Observable.{observable-found, found-observable}
 use Rattle.resolution.proofs.Lists.{and-imp, first-in, first-out, flat-in, flat-out, imp, memName-in, memName-out, or-imp, same-imp, use-imp}
 use Rattle.resolution.proofs.Edges.{read-over, transitive-in}
 use Rattle.resolution.proofs.Closure.{closure-closed, closure-holds, closure-least}
 
--- each module of the first set is in the second
-pub modules-over : (s₁ s₂ : List Descriptor) → distinct (names s₂) ≡ true → ((m : Descriptor) → Mem m s₁ → Mem m s₂) → (n : Name) (m : Descriptor)
+-- each observable module of the first set is so in the second
+pub modules-over : (s₁ s₂ : List Descriptor) → ((m : Descriptor) → Mem m (observable s₁) → Mem m (observable s₂)) → (n : Name) (m : Descriptor)
     → find n s₁ ≡ some m → find n s₂ ≡ some m
-modules-over s₁ s₂ d f n m e = let r = find-mem n s₁ m e in subst (λ (z : Name). find z s₂ ≡ some m) (r .1) (unique-of s₂ d m (f m (r .0)))
+modules-over s₁ s₂ f n m e = subst (λ (z : Name). find z s₂ ≡ some m) (find-mem n s₁ m e .1) (observable-found s₂ m (f m (found-observable s₁ n m e)))
 
 -- two of the same name found in one set are one
 found-same : (n k : Name) (s : List Descriptor) (m o : Descriptor) → find n s ≡ some m → find k s ≡ some o → n ≡ k → m ≡ o
@@ -136,8 +136,7 @@ pub kept-has : {rq₁ : Request} {R₁ : List Descriptor} {rq₂ : Request} {R�
     → hasModule R₂ n ≡ true
 kept-has {R₁} {R₂} k n h = let r = has-some n R₁ h in has-find n R₂ (r .0) (k .found n (r .0) (r .1))
 
-pub wider : (s₁ : List Descriptor) (rq₁ : Request) (t₁ : State) (s₂ : List Descriptor) (rq₂ : Request) (t₂ : State) → distinct (names s₁) ≡ true
-    → distinct (names s₂) ≡ true
+pub wider : (s₁ : List Descriptor) (rq₁ : Request) (t₁ : State) (s₂ : List Descriptor) (rq₂ : Request) (t₂ : State)
     → resolve s₁ rq₁ ≡ done t₁ → resolve s₂ rq₂ ≡ done t₂ → Wider s₁ rq₁ s₂ rq₂ → Kept rq₁ (t₁ .resolved) rq₂ (t₂ .resolved)
-wider s₁ rq₁ t₁ s₂ rq₂ t₂ d₁ d₂ h₁ h₂ w =
-    kept s₁ rq₁ (t₁ .resolved) (accepted s₁ rq₁ d₁ t₁ h₁) s₂ rq₂ (t₂ .resolved) (accepted s₂ rq₂ d₂ t₂ h₂) w
+wider s₁ rq₁ t₁ s₂ rq₂ t₂ h₁ h₂ w =
+    kept s₁ rq₁ (t₁ .resolved) (accepted s₁ rq₁ t₁ h₁) s₂ rq₂ (t₂ .resolved) (accepted s₂ rq₂ t₂ h₂) w

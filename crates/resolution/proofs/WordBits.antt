@@ -1,11 +1,14 @@
 -- The words of a test hold the positions that pass.
 use mathlib.Core.Path.{_≡_, sym, ap, _∙_}
 use mathlib.Core.Bool.{Bool, true, false}
+use mathlib.Core.List.{List}
 use Prim.Native.Nat.{ℕ, zero, suc, _+_, _*_, _/_, _%_, _<_}
 use native.Mathlib.Omega.{arith}
 use lib.Dec.{eqb}
 use lib.ListN.{getD}
+use borrow.Author.Tests.{lt-ltb}
 use Rattle.resolution.specs.Row.{bit, holds, one}
+use Rattle.resolution.specs.Graph.{edge}
 use Rattle.resolution.specs.Resolve.{bitsFrom, wordsFrom, words}
 use Rattle.resolution.proofs.row.Bits.{bit-low, bit-high}
 
@@ -45,3 +48,11 @@ holds-words p n k l =
     let b : k % 64 < 64 = omega arith in
     let z : (0 + k / 64) * 64 + k % 64 ≡ k = omega arith in
     ap (λ (w : ℕ). bit w (k % 64)) (word-at p 0 n (k / 64) a) ∙ bits-at p ((0 + k / 64) * 64) 64 (k % 64) b ∙ ap p z
+
+-- row i has bits 256 i to 256 i + 255
+pub row-bit : (g : List ℕ) (i j : ℕ) → j < 256 → edge g i j ≡ holds g (i * 256 + j)
+unfolding edge holds
+row-bit g i j l =
+    let a : (i * 256 + j) / 64 ≡ i * 4 + j / 64 = omega arith in
+    let b : (i * 256 + j) % 64 ≡ j % 64 = omega arith in
+    rw (lt-ltb j 256 l, a, b)

@@ -54,3 +54,18 @@ unfolding holds
 edges-are e g n f h = words-are (λ k. e (k / 256) (k % 256)) g 1024 n f (λ k l.
     ap₂ (λ (x y : ℕ). bit (getD g x 0) y) (omega arith) (omega arith)
     ∙ sym (edge-is g (k / 256) (k % 256) (omega arith)) ∙ h (k / 256) (k % 256) (omega arith) (omega arith))
+
+-- two tests that are the same have the same words
+bits-over : (p q : ℕ → Bool) → ((k : ℕ) → p k ≡ q k) → (k n : ℕ) → bitsFrom p k n ≡ bitsFrom q k n
+unfolding bitsFrom
+bits-over p q h k zero = refl
+bits-over p q h k (suc n) = ap₂ (λ (b : Bool) (w : ℕ). one b + 2 * w) (h k) (bits-over p q h (suc k) n)
+
+words-from-over : (p q : ℕ → Bool) → ((k : ℕ) → p k ≡ q k) → (i n : ℕ) → wordsFrom p i n ≡ wordsFrom q i n
+unfolding wordsFrom
+words-from-over p q h i zero = refl
+words-from-over p q h i (suc n) = ap₂ (λ (x : ℕ) (l : List ℕ). x ∷ l) (bits-over p q h (i * 64) 64) (words-from-over p q h (suc i) n)
+
+pub words-over : (p q : ℕ → Bool) → ((k : ℕ) → p k ≡ q k) → (n : ℕ) → words p n ≡ words q n
+unfolding words
+words-over p q h n = words-from-over p q h 0 n

@@ -1,14 +1,14 @@
 -- What each step from the resolved positions to the configuration leaves.
 use mathlib.Core.Path.{_≡_}
-use mathlib.Core.Bool.{Bool, _&&_}
+use mathlib.Core.Bool.{Bool, true, false, _&&_}
 use mathlib.Core.List.{List, map}
-use Prim.Native.Nat.{ℕ, _/_, _%_, _<_}
+use Prim.Native.Nat.{ℕ, _/_, _%_, _≤_, _<_}
 use lib.Dec.{ltb}
 use Rattle.records.specs.Descriptor.{Descriptor}
 use Rattle.records.specs.Request.{requestOf, isPermitted}
 use Rattle.records.specs.Set.{modules}
 use Rattle.resolution.specs.Lists.{Mem}
-use Rattle.resolution.specs.Positions.{moduleAt}
+use Rattle.resolution.specs.Positions.{moduleAt, isVisible}
 use Rattle.resolution.specs.Row.{holds}
 use Rattle.resolution.specs.Graph.{edge}
 use Rattle.resolution.specs.Resolver.{isOneOf}
@@ -30,9 +30,10 @@ pub record AcceptedWith (members reads unnamed : List ℕ) (r : Resolution) : Ty
 
 -- r accepts, with the configuration of the modules at the positions ps
 pub record Configured (s q : List ℕ) (count : ℕ) (ps : List ℕ) (r : Resolution) : Type 0 where
-  pub is : (ms : List Descriptor) → ms ≡ map (moduleAt (modules s)) ps → ((p : ℕ) → Mem p ps → p < count)
+  pub is : (ms : List Descriptor) → ms ≡ map (moduleAt (modules s)) ps → ((p : ℕ) → Mem p ps → isVisible (modules s) p ≡ true)
       → r ≡ record { outcome = Accepted; configuration = configurationOf (modules s) (requestOf q) ms }
 
--- of the first `count` modules of the set s, ws holds those that the request q permits
+-- of the first `count` modules of the set s, ws holds those that the request q permits and that are not hidden
 pub record PermittedRow (s q : List ℕ) (count : ℕ) (ws : List ℕ) : Type 0 where
-  pub each : (i : ℕ) → i < count → holds ws i ≡ isPermitted (requestOf q) (moduleAt (modules s) i .name)
+  pub past : (i : ℕ) → count ≤ i → holds ws i ≡ false
+  pub each : (i : ℕ) → i < count → holds ws i ≡ isVisible (modules s) i && isPermitted (requestOf q) (moduleAt (modules s) i .name)

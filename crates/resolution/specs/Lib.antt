@@ -10,7 +10,11 @@ pub mod Row
 pub mod Graph
 pub mod Configuration
 pub mod Positions
+pub mod Observed
 pub mod Resolve
+pub mod SameResolution
+pub mod Hidden
+pub mod Composed
 pub mod Absent
 pub mod PackageOwner
 pub mod Cases

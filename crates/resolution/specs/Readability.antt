@@ -12,7 +12,7 @@ use Rattle.records.specs.Name.{javaBase, allUnnamed}
 use Rattle.records.specs.Descriptor.{Requirement, Descriptor, descriptorOf}
 use Rattle.records.specs.Request.{Read, requestOf}
 use Rattle.records.specs.Set.{nameAt, blockAt, modules}
-use Rattle.records.specs.Finder.{findName, pickFound}
+use Rattle.records.specs.Finder.{findName, pickFound, isAt}
 use Rattle.records.specs.declared.finder.Found.{Found}
 use Rattle.records.specs.declared.finder.Found.the-variants.{At, Nothing}
 use Rattle.resolution.specs.Lists.{Name, Mem, any}
@@ -29,10 +29,6 @@ tableNames s t n = map (nameAt s) (take n t)
 unfoldable pub memberOf : List ℕ → Found → Found
 memberOf ws (At i) = pickFound (holds ws i) (At i) Nothing
 memberOf ws Nothing = Nothing
-
-unfoldable pub isAt : Found → ℕ → Bool
-isAt (At i) j = eqb j i
-isAt Nothing j = false
 
 -- the name is that of the member at j
 unfoldable pub isNamed : List Name → List ℕ → Name → ℕ → Bool

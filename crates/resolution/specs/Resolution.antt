@@ -11,6 +11,7 @@ use Rattle.records.specs.Bytes.{sameBytes}
 use Rattle.records.specs.Name.{javaBase, memName}
 use Rattle.records.specs.Descriptor.{Requirement, Descriptor}
 use Rattle.records.specs.Request.{Request, isPermitted}
+use Rattle.records.specs.Finder.{foundFrom}
 use Rattle.resolution.specs.Lists.{Name, any, keep, first}
 use Rattle.resolution.specs.Loop.{Step, stop, fail, go, Result, failed, done, loop}
 use Rattle.resolution.specs.Owner.{ownerIn, shared, least}
@@ -26,8 +27,7 @@ unfoldable pub find : Name → List Descriptor → Option Descriptor
 unfolding first
 find n s = first (λ m. sameBytes (m .name) n) s
 
--- a module of this name is among these: among those of the set, the name is observable ("observable is each module of the
--- set"); among those resolved, it is a member
+-- a module of this name is among these: among those of the set, the name is observable; among those resolved, it is a member
 unfoldable pub hasModule : List Descriptor → Name → Bool
 unfolding any
 hasModule s n = any (λ m. sameBytes (m .name) n) s
@@ -37,19 +37,25 @@ unfoldable pub indexOf : Name → List Descriptor → ℕ
 indexOf n [] = 0
 indexOf n (m ∷ ms) = cond (sameBytes (m .name) n) 0 (suc (indexOf n ms))
 
+-- of the modules of a set, those that their names find, in set order: "The first place holding a name gives the module, and later
+-- ones of that name are not observable, nor are their services"
+unfoldable pub observable : List Descriptor → List Descriptor
+unfolding foundFrom
+observable s = foundFrom (λ m. m .name) (names s) 0 s
+
 -- ---- refusals, and the state
 
 -- the record that queued a name ("the record that first queued it or, in a round, the requirement at fault"): none for
 -- java.base in front, root i of the request, requirement j of the module at position p, module i of a round's providers
-pub data Place : Type 0 where
-  base : Place
-  root : ℕ → Place
-  required : ℕ → ℕ → Place
-  provider : ℕ → Place
+pub data QueuedBy : Type 0 where
+  base : QueuedBy
+  root : ℕ → QueuedBy
+  required : ℕ → ℕ → QueuedBy
+  provider : ℕ → QueuedBy
 
 pub data Refusal : Type 0 where
   -- 5: the name, and the record that it is a part of
-  moduleNotFound : Name → Place → Refusal
+  moduleNotFound : Name → QueuedBy → Refusal
   -- 6
   javaBaseNotFound : Refusal
   -- 7: the package, its owner, the second module
@@ -60,7 +66,7 @@ pub data Refusal : Type 0 where
 -- a name in the queue, and the record that queued it
 pub record Item : Type 0 where
   pub name : Name
-  pub place : Place
+  pub by : QueuedBy
 
 -- the modules resolved, in order; the names met ("A name is met once it has been queued, skipped later or not, and in no other
 -- way"); the queue
@@ -87,22 +93,22 @@ choose false false false false = add
 
 -- the name at fault and its record; or the names met and the queue
 pub data Enqueued : Type 0 where
-  missing : Name → Place → Enqueued
+  missing : Name → QueuedBy → Enqueued
   enqueued : List Name → List Item → Enqueued
 
 -- a name that is queued is met, and stands at the queue's end
-unfoldable pub enqueueNext : Choice → Name → Place → List Name → List Item → (List Name → List Item → Enqueued) → Enqueued
+unfoldable pub enqueueNext : Choice → Name → QueuedBy → List Name → List Item → (List Name → List Item → Enqueued) → Enqueued
 enqueueNext pass n p met q k = k met q
-enqueueNext add n p met q k = k (n ∷ met) (q ++ (record { name = n; place = p } ∷ []))
+enqueueNext add n p met q k = k (n ∷ met) (q ++ (record { name = n; by = p } ∷ []))
 enqueueNext refuse n p met q k = missing n p
 
 -- the requirements in order, from number j on
-unfoldable pub enqueue : Bool → List Descriptor → (ℕ → Place) → List Requirement → ℕ → List Name → List Item → Enqueued
+unfoldable pub enqueue : Bool → List Descriptor → (ℕ → QueuedBy) → List Requirement → ℕ → List Name → List Item → Enqueued
 unfolding enqueueNext choose hasModule memName
-enqueue inRound s placeOf [] j met q = enqueued met q
-enqueue inRound s placeOf (r ∷ rs) j met q =
-    enqueueNext (choose inRound (memName (r .name) met) (hasModule s (r .name)) (r .static)) (r .name) (placeOf j) met q
-    (λ met₂ q₂. enqueue inRound s placeOf rs (suc j) met₂ q₂)
+enqueue inRound s byOf [] j met q = enqueued met q
+enqueue inRound s byOf (r ∷ rs) j met q =
+    enqueueNext (choose inRound (memName (r .name) met) (hasModule s (r .name)) (r .static)) (r .name) (byOf j) met q
+    (λ met₂ q₂. enqueue inRound s byOf rs (suc j) met₂ q₂)
 
 -- ---- one turn of the queue
 
@@ -126,7 +132,7 @@ tested inRound s ms m met q none = handled (ms ++ (m ∷ [])) (enqueue inRound s
 -- "one not observable refuses": an absent java.base is 6, any other name 5
 unfoldable pub found : Bool → List Descriptor → Item → List Descriptor → List Name → List Item → Option Descriptor → Step State Refusal
 unfolding tested least shared
-found inRound s e ms met q none = fail (cond (sameBytes (e .name) javaBase) javaBaseNotFound (moduleNotFound (e .name) (e .place)))
+found inRound s e ms met q none = fail (cond (sameBytes (e .name) javaBase) javaBaseNotFound (moduleNotFound (e .name) (e .by)))
 found inRound s e ms met q (some m) = tested inRound s ms m met q (least (shared ms m))
 
 -- "A name taken from the queue that is not permitted is skipped (java.base always passes)"
@@ -173,8 +179,8 @@ isProvider ms rq m = isPermitted rq (m .name) && any (λ v. any (λ u. memName v
 
 -- "all unmet, permitted, observable providers of services used by resolved modules, in set order": queueing leaves out those met
 unfoldable pub providers : List Descriptor → Request → List Descriptor → List Requirement
-unfolding asRequirement isProvider keep
-providers s rq ms = map (λ m. asRequirement (m .name)) (keep (isProvider ms rq) s)
+unfolding asRequirement isProvider keep observable
+providers s rq ms = map (λ m. asRequirement (m .name)) (keep (isProvider ms rq) (observable s))
 
 unfoldable pub ran : Result State Refusal → Step State Refusal
 ran (failed a) = fail a
@@ -206,7 +212,7 @@ baseMet false = javaBase ∷ []
 
 unfoldable pub baseQueue : Bool → List Item
 baseQueue true = []
-baseQueue false = record { name = javaBase; place = base } ∷ []
+baseQueue false = record { name = javaBase; by = base } ∷ []
 
 -- "roots in order, repeats dropped"
 unfoldable pub seeds : List Descriptor → Request → Enqueued

@@ -3,13 +3,12 @@
 use Prim.Native.Nat.{ℕ, zero, suc, _+_, _*_, _/_, _%_}
 use mathlib.Core.Bool.{Bool, _&&_}
 use mathlib.Core.List.{List, [], _∷_}
-use lib.Dec.{ltb}
 use lib.ListN.{length, getD, replicate}
 use Rattle.records.specs.Name.{allUnnamed}
 use Rattle.records.specs.Record.{records, nthIn, firstIn}
 use Rattle.records.specs.Descriptor.{Descriptor}
 use Rattle.records.specs.Request.{Request, requestOf, checkInputs}
-use Rattle.records.specs.Set.{blocks, modules, checkSet}
+use Rattle.records.specs.Set.{blockAt, modules, checkSet}
 use Rattle.records.specs.declared.error.Input.the-variants as Input
 use Rattle.records.specs.declared.error.ModuleError.{ModuleError}
 use Rattle.records.specs.declared.error.ModuleError.the-variants.{TooLarge, ModuleNotFound, JavaBaseNotFound, SplitPackage}
@@ -20,10 +19,10 @@ use Rattle.records.specs.declared.set.SetAnswer.{SetAnswer}
 use Rattle.records.specs.declared.set.SetAnswer.the-variants as Set
 use Rattle.resolution.specs.Lists.{Name}
 use Rattle.resolution.specs.Loop.{Result, failed, done}
-use Rattle.resolution.specs.Resolution.{hasModule, indexOf, Place, base, root, required, provider, Refusal, moduleNotFound, javaBaseNotFound, splitPackage, ranOut, State}
+use Rattle.resolution.specs.Resolution.{hasModule, indexOf, QueuedBy, base, root, required, provider, Refusal, moduleNotFound, javaBaseNotFound, splitPackage, ranOut, State}
 use Rattle.resolution.specs.Resolution as Resolution
 use Rattle.resolution.specs.Reads.{reads}
-use Rattle.resolution.specs.Positions.{moduleAt}
+use Rattle.resolution.specs.Positions.{moduleAt, isVisible}
 use Rattle.resolution.specs.Row.{one}
 use Rattle.resolution.specs.declared.configuration.Configuration.{Configuration}
 use Rattle.resolution.specs.declared.resolve.Outcome.the-variants.{Accepted, Refused}
@@ -40,19 +39,23 @@ bodyStart Next.Nothing = 0
 unfoldable pub startIn : List ℕ → ℕ → ℕ
 startIn s p = getD (checkSet s .starts) p 0
 
+-- its records, by the table
+unfoldable pub recordsAt : List ℕ → ℕ → List (List ℕ)
+recordsAt s p = records (blockAt s (checkSet s .starts) p)
+
 -- 5: "The name of refusal 5 is handed back as a part of the request or of the set". An RT has the name behind a length byte, an
 -- RQ behind two bytes of flags and a length byte. The last two do not occur: an absent java.base is 6, and a provider is a
 -- module of the set; `absent-name-is` shows that the bytes told are the absent name.
-unfoldable pub absentOf : List ℕ → List ℕ → ℕ → Place → ModuleError
+unfoldable pub absentOf : List ℕ → List ℕ → ℕ → QueuedBy → ModuleError
 absentOf s q n (root i) = ModuleNotFound Input.Request (bodyStart (nthIn Kind.Root i 0 (records q)) + 1) n
-absentOf s q n (required p j) = ModuleNotFound Input.Set (bodyStart (nthIn Kind.Requires j (startIn s p) (records (getD (blocks s) p []))) + 3) n
+absentOf s q n (required p j) = ModuleNotFound Input.Set (bodyStart (nthIn Kind.Requires j (startIn s p) (recordsAt s p)) + 3) n
 absentOf s q n base = JavaBaseNotFound
 absentOf s q n (provider i) = JavaBaseNotFound
 
 -- 7: where the package stands in the second module's first PK of it, and the positions of the owner and of the second module
 unfoldable pub splitOf : List ℕ → Name → ℕ → ℕ → ModuleError
 splitOf s n owner second =
-    SplitPackage (bodyStart (firstIn Kind.Package (n ∷ []) (startIn s second) (records (getD (blocks s) second []))) + 1) (length n) owner second
+    SplitPackage (bodyStart (firstIn Kind.Package (n ∷ []) (startIn s second) (recordsAt s second)) + 1) (length n) owner second
 
 -- `ranOut` does not occur: `never-out`
 unfoldable pub errorOf : List ℕ → List ℕ → Refusal → ModuleError
@@ -79,18 +82,19 @@ unfoldable pub words : (ℕ → Bool) → ℕ → List ℕ
 unfolding wordsFrom
 words p n = wordsFrom p 0 n
 
--- of the modules of a set s, where ms are resolved: module k is resolved; module i reads module j; module k reads ALL-UNNAMED
+-- of the modules of a set s, where ms are resolved: module k is resolved; module i reads module j; module k reads ALL-UNNAMED. A
+-- module that is hidden is none
 unfoldable pub memberAt : List Descriptor → List Descriptor → ℕ → Bool
-unfolding hasModule
-memberAt s ms k = ltb k (length s) && hasModule ms (moduleAt s k .name)
+unfolding hasModule isVisible
+memberAt s ms k = isVisible s k && hasModule ms (moduleAt s k .name)
 
 unfoldable pub edgeAt : List Descriptor → Request → List Descriptor → ℕ → ℕ → Bool
-unfolding reads
-edgeAt s rq ms i j = ltb i (length s) && (ltb j (length s) && reads ms rq (moduleAt s i .name) (moduleAt s j .name))
+unfolding reads isVisible
+edgeAt s rq ms i j = isVisible s i && (isVisible s j && reads ms rq (moduleAt s i .name) (moduleAt s j .name))
 
 unfoldable pub unnamedAt : List Descriptor → Request → List Descriptor → ℕ → Bool
-unfolding reads
-unnamedAt s rq ms k = ltb k (length s) && reads ms rq (moduleAt s k .name) allUnnamed
+unfolding reads isVisible
+unnamedAt s rq ms k = isVisible s k && reads ms rq (moduleAt s k .name) allUnnamed
 
 -- row i has bits 256 i to 256 i + 255
 unfoldable pub configurationOf : List Descriptor → Request → List Descriptor → Configuration

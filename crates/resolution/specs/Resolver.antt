@@ -35,8 +35,8 @@ use Rattle.resolution.specs.declared.resolver.Phase.{Phase}
 
 -- ---- what is read
 
--- the set and the request; where each module of the set starts, and how many there are; the row of permitted positions; whether
--- a round is being made, and the positions resolved before the rounds
+-- the set and the request; where each module of the set starts, and how many there are; the row of the positions permitted and
+-- not hidden; whether a round is being made, and the positions resolved before the rounds
 pub record Inputs : Type 0 where
   pub set : List ℕ
   pub request : List ℕ

@@ -14,7 +14,7 @@ use Rattle.records.specs.Request.{Request, isPermitted}
 use Rattle.resolution.specs.Lists.{Name, any}
 use Rattle.resolution.specs.Loop.{Step, stop, fail, go, Result, failed, done, loop}
 use Rattle.resolution.specs.Owner.{ownerIn, shared, least}
-use Rattle.resolution.specs.Resolution.{find, hasModule, indexOf, Place, base, root, required, provider, Refusal, moduleNotFound, javaBaseNotFound, splitPackage, ranOut, Item, State, Choice, pass, add, refuse, choose, nameOrEmpty, asRequirement, providers, queueFuel}
+use Rattle.resolution.specs.Resolution.{find, hasModule, indexOf, QueuedBy, base, root, required, provider, Refusal, moduleNotFound, javaBaseNotFound, splitPackage, ranOut, Item, State, Choice, pass, add, refuse, choose, nameOrEmpty, asRequirement, providers, queueFuel}
 
 -- those that wait, and what ends the queue
 pub record Line : Type 0 where
@@ -56,26 +56,26 @@ shortOf s rq st = record { resolved = st .resolved; line = lineOf s rq (st .queu
 
 -- the name at fault and its record; or the line
 pub data Lined : Type 0 where
-  fault : Name → Place → Lined
+  fault : Name → QueuedBy → Lined
   lined : Line → Lined
 
 -- met: resolved, waiting, or (in a round) an absent name met before the rounds
 unfoldable pub isMet : Bool → (Name → Bool) → List Descriptor → List Descriptor → Line → Name → Bool
 isMet inRound old s ms l n = hasModule ms n || (hasModule (l .todo) n || (inRound && (not (hasModule s n) && old n)))
 
-unfoldable pub shortNext : Request → List Descriptor → Choice → Name → Place → Line → (Line → Lined) → Lined
+unfoldable pub shortNext : Request → List Descriptor → Choice → Name → QueuedBy → Line → (Line → Lined) → Lined
 unfolding push
 shortNext rq s pass n p l k = k l
-shortNext rq s add n p l k = k (push l (isPermitted rq n) (find n s) (record { name = n; place = p }))
+shortNext rq s add n p l k = k (push l (isPermitted rq n) (find n s) (record { name = n; by = p }))
 shortNext rq s refuse n p l k = fault n p
 
 -- the requirements in order, from number j on
-unfoldable pub shortEnqueue : Bool → (Name → Bool) → List Descriptor → Request → (ℕ → Place) → List Descriptor → List Requirement → ℕ → Line → Lined
+unfoldable pub shortEnqueue : Bool → (Name → Bool) → List Descriptor → Request → (ℕ → QueuedBy) → List Descriptor → List Requirement → ℕ → Line → Lined
 unfolding shortNext isMet choose
-shortEnqueue inRound old s rq placeOf ms [] j l = lined l
-shortEnqueue inRound old s rq placeOf ms (r ∷ rs) j l =
-    shortNext rq s (choose inRound (isMet inRound old s ms l (r .name)) (hasModule s (r .name)) (r .static)) (r .name) (placeOf j) l
-    (λ l₂. shortEnqueue inRound old s rq placeOf ms rs (suc j) l₂)
+shortEnqueue inRound old s rq byOf ms [] j l = lined l
+shortEnqueue inRound old s rq byOf ms (r ∷ rs) j l =
+    shortNext rq s (choose inRound (isMet inRound old s ms l (r .name)) (hasModule s (r .name)) (r .static)) (r .name) (byOf j) l
+    (λ l₂. shortEnqueue inRound old s rq byOf ms rs (suc j) l₂)
 
 unfoldable pub shortHandled : List Descriptor → Lined → Step Short Refusal
 shortHandled ms (fault n p) = fail (moduleNotFound n p)
@@ -92,7 +92,7 @@ shortTested inRound old s rq ms m l none =
 unfoldable pub shortTaken : Bool → (Name → Bool) → List Descriptor → Request → List Descriptor → List Descriptor → Option Item → Step Short Refusal
 unfolding shortTested
 shortTaken inRound old s rq ms [] none = stop
-shortTaken inRound old s rq ms [] (some e) = fail (cond (sameBytes (e .name) javaBase) javaBaseNotFound (moduleNotFound (e .name) (e .place)))
+shortTaken inRound old s rq ms [] (some e) = fail (cond (sameBytes (e .name) javaBase) javaBaseNotFound (moduleNotFound (e .name) (e .by)))
 shortTaken inRound old s rq ms (m ∷ q) h = shortTested inRound old s rq ms m (record { todo = q; halt = h }) (least (shared ms m))
 
 unfoldable pub shortTurn : Bool → (Name → Bool) → List Descriptor → Request → Short → Step Short Refusal
@@ -138,7 +138,7 @@ shortRounds s rq (done st) = loop (shortRound (metBefore rq (st .resolved)) s rq
 unfoldable pub shortBase : Request → List Descriptor → Bool → Line
 unfolding push empty
 shortBase rq s true = empty
-shortBase rq s false = push empty true (find javaBase s) (record { name = javaBase; place = base })
+shortBase rq s false = push empty true (find javaBase s) (record { name = javaBase; by = base })
 
 unfoldable pub shortStarted : List Descriptor → Request → Lined → Result Short Refusal
 unfolding shortRounds shortRun

@@ -1,4 +1,4 @@
-// The steps around the resolver: the permitted positions before it, the configuration or a refusal after it.
+// The steps around the resolver: the row of positions permitted and not hidden before it, the configuration or a refusal after it.
 ghost use mathlib.Core.Path.{_≡_};
 ghost use lib.ListN.{take};
 ghost use Rattle.records.specs.Set.{checkSet};
@@ -15,6 +15,7 @@ use crate::row::empty;
 use crate::row::with;
 use records::error::ModuleError;
 use records::finder::name_at;
+use records::index::is_first;
 use records::request::is_permitted;
 
 // A refusal: no member and no read edge.
@@ -31,9 +32,10 @@ pub fn refuse(e: ModuleError) -> Resolution
     }
 }
 
-// The positions of the set whose modules the request permits.
-pub fn permitted(set: &[u8], request: &[u8], starts: &[usize], count: usize) -> Row
+// The positions of the set whose modules the request permits and that are not hidden: the first of their names.
+pub fn permitted(set: &[u8], request: &[u8], starts: &[usize], count: usize, index: &[u16]) -> Row
     requires { ⌜ checkSet (now set) ≡ record { answer = Modules count; starts = now starts } ⌝ }
+    requires { ⌜ Lookup (now set) (now starts) count (now index) ⌝ }
     ensures { λ r. ⌜ PermittedRow (now (set .entry)) (now (request .entry)) count (r .words) ⌝ }
 {
     let mut row = empty();
@@ -41,8 +43,10 @@ pub fn permitted(set: &[u8], request: &[u8], starts: &[usize], count: usize) -> 
     while k < count {
         let i = k;
         k += 1;
-        if is_permitted(request, name_at(set, starts[i])) {
-            row = with(row, i);
+        if is_first(set, starts, count, index, i) {
+            if is_permitted(request, name_at(set, starts[i])) {
+                row = with(row, i);
+            }
         }
     }
     row

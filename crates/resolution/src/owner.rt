@@ -2,12 +2,17 @@
 ghost use mathlib.Core.Path.{_≡_};
 ghost use Rattle.records.specs.Descriptor.{descriptorOf};
 ghost use Rattle.records.specs.Set.{blockAt};
-ghost use Rattle.resolution.specs.PackageOwner.{ownsAt, findModuleForPackage};
+ghost use Rattle.resolution.specs.Lookup.{ownsBy};
+ghost use Rattle.resolution.specs.PackageOwner.{findModuleForPackage};
+ghost use Rattle.resolution.specs.Readability.{tableNames};
 use crate::configuration::Configuration;
 use crate::row::Row;
 use crate::row::has;
 use records::descriptor::has_package;
+use records::descriptor::name;
 use records::error::ModuleError;
+use records::finder::find;
+use records::finder::is_at;
 use records::set::SetAnswer;
 use records::set::block;
 use records::set::check_set;
@@ -19,17 +24,21 @@ pub enum Owner {
     Refused(ModuleError),
 }
 
-// Position i is a member, and its module has the package.
-fn owns(set: &[u8], starts: &[usize], members: Row, i: usize, pkg: &[u8]) -> bool
-    ensures { λ r. ⌜ r ≡ ownsAt (members .words) (now (pkg .entry)) i (descriptorOf (blockAt (now (set .entry)) (now (starts .entry)) i)) ⌝ }
+// Position i of the n modules is a member, and its module has the package and is not hidden.
+fn owns(set: &[u8], starts: &[usize], n: usize, members: Row, i: usize, pkg: &[u8]) -> bool
+    ensures { λ r. ⌜ r ≡ ownsBy (tableNames (now (set .entry)) (now (starts .entry)) n) (members .words) (now (pkg .entry)) i (descriptorOf (blockAt (now (set .entry)) (now (starts .entry)) i)) ⌝ }
 {
     if has(members, i) {
-        return has_package(block(set, starts, i), pkg);
+        let b = block(set, starts, i);
+        if has_package(b, pkg) {
+            return is_at(find(set, starts, n, name(b)), i);
+        }
     }
     false
 }
 
-// The lowest position of a member that has the package. The set is checked first; positions without a module are passed over.
+// The lowest position of a member that has the package. The set is checked first; positions without a module, and hidden ones, are
+// passed over.
 pub fn find_module_for_package(set: &[u8], configuration: Configuration, pkg: &[u8]) -> Owner
     ensures { λ r. ⌜ r ≡ findModuleForPackage (now (set .entry)) configuration (now (pkg .entry)) ⌝ }
 {
@@ -43,7 +52,7 @@ pub fn find_module_for_package(set: &[u8], configuration: Configuration, pkg: &[
             let members = Row { words };
             let mut i: usize = 0;
             while i < n {
-                if owns(set, &starts, members, i, pkg) {
+                if owns(set, &starts, n, members, i, pkg) {
                     return Owner::At(i);
                 }
                 i += 1;

@@ -83,7 +83,7 @@ fn provides_used(
     }
 }
 
-// The module at i is permitted and provides such a service.
+// The module at i is permitted and not hidden, and provides such a service.
 fn is_bound(
     set: &[u8],
     starts: &[usize],
@@ -154,7 +154,8 @@ fn offer(
     q
 }
 
-// The providers of a round: the modules of the set that are permitted and provide a service that a resolved module uses.
+// The providers of a round: the modules of the set that are permitted and not hidden, and provide a service that a resolved
+// module uses.
 fn provide(
     set: &[u8],
     starts: &[usize],

@@ -37,7 +37,7 @@ fn resolve_checked(set: &[u8], request: &[u8], starts: &[usize], count: usize) -
 {
     let mut index = [0u16; 1280];
     add_all(set, starts, count, &mut index);
-    let row = permitted(set, request, starts, count);
+    let row = permitted(set, request, starts, count, &index);
     let done = resolve_order(set, request, starts, count, row, &index);
     let order = done.order;
     let queue = done.queue;

@@ -47,9 +47,9 @@ pub struct Queue {
     pub halt: Halt,
 }
 
-// How many modules the set has, which of them are permitted, whether a round is being made, and how many modules were resolved
-// before the rounds. `limited`: whether the request has an LM; `known`: whether tables of names tell which absent names are
-// permitted, and in a round which were met before the rounds.
+// How many modules the set has, which of them are permitted and not hidden, whether a round is being made, and how many modules
+// were resolved before the rounds. `limited`: whether the request has an LM; `known`: whether tables of names tell which absent
+// names are permitted, and in a round which were met before the rounds.
 pub struct Phase {
     pub count: usize,
     pub permitted: [u64; 4],

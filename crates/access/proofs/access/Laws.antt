@@ -25,14 +25,16 @@ use Rattle.records.proofs.finder.Modules.{find-is}
 use Rattle.records.proofs.set.Blocks.{GoodSet, good-set}
 use Rattle.resolution.specs.Lists.{Name}
 use Rattle.resolution.specs.Row.{holds}
-use Rattle.resolution.specs.Graph.{Successors}
-use Rattle.resolution.specs.Positions.{moduleAt}
+use Rattle.resolution.specs.Graph.{edge, Successors}
+use Rattle.resolution.specs.Positions.{moduleAt, isVisible}
+use Rattle.resolution.specs.Observed.{hasMember, hasEdge}
 use Rattle.resolution.specs.declared.configuration.Configuration.{Configuration}
-use Rattle.resolution.proofs.Positions.{Located}
+use Rattle.resolution.proofs.Positions.{Located, located-visible}
+use Rattle.resolution.proofs.Observed.{member-bit, edge-bit, unnamed-bit}
 use Rattle.resolution.proofs.Sets.{set-length, set-located, module-block}
 use Rattle.records.proofs.request.Taken.{inputs-taken}
 use Rattle.records.proofs.Logic.{by}
-use Rattle.access.specs.Access.{heldAt, edgeTo, edgeFrom, isMember, readsName, resolvedModule, entriesOf, grantsOf, denied, pickResult, grants, granted, namedVerdict, unnamedGranted, unnamedVerdict, verdict, answered, checkAccess}
+use Rattle.access.specs.Access.{passes, isMember, edgeTo, isReader, readsName, resolvedModule, entriesOf, grantsOf, denied, pickResult, grants, granted, namedVerdict, unnamedGranted, unnamedVerdict, verdict, answered, checkAccess}
 use Rattle.access.specs.Members.{amongMembers, memberIn, moduleOf, verdictBy}
 use Rattle.access.specs.CanRead.{readAnswered, canRead}
 use Rattle.access.specs.declared.access.AccessCheckResult.{AccessCheckResult}
@@ -62,13 +64,13 @@ module _ (s : List ℕ) (n : ℕ) (t : List ℕ) (k : checkSet s ≡ record { an
   -- ---- what a row leads to
 
   module _ (ws : List ℕ) (u a : Bool) (ea : a ≡ sameBytes x allUnnamed && u) (z : a ≡ false) where
-    pub leads-held : (r : Bool) (j : ℕ) → f ≡ At j → r ≡ holds ws j → r ≡ heldAt ws (findModule s x) || (sameBytes x allUnnamed && u)
-    unfolding heldAt
-    leads-held r j ej er = er ∙ sym (or-false (holds ws j)) ∙ sym (rw (← ea, z) (ap (λ (y : Found). heldAt ws y || false) (sym found ∙ ej)))
+    pub leads-held : (r : Bool) (j : ℕ) → f ≡ At j → r ≡ holds ws j → r ≡ passes (holds ws) (findModule s x) || (sameBytes x allUnnamed && u)
+    unfolding passes
+    leads-held r j ej er = er ∙ sym (or-false (holds ws j)) ∙ sym (rw (← ea, z) (ap (λ (y : Found). passes (holds ws) y || false) (sym found ∙ ej)))
 
-    pub leads-none : f ≡ Nothing → false ≡ heldAt ws (findModule s x) || (sameBytes x allUnnamed && u)
-    unfolding heldAt
-    leads-none en = sym (rw (← ea, z) (ap (λ (y : Found). heldAt ws y || false) (sym found ∙ en)))
+    pub leads-none : f ≡ Nothing → false ≡ passes (holds ws) (findModule s x) || (sameBytes x allUnnamed && u)
+    unfolding passes
+    leads-none en = sym (rw (← ea, z) (ap (λ (y : Found). passes (holds ws) y || false) (sym found ∙ en)))
 
 pub leads-unnamed : (b : Bool) (x : Name) (u a : Bool) → a ≡ sameBytes x allUnnamed && u → a ≡ true → true ≡ b || (sameBytes x allUnnamed && u)
 leads-unnamed b x u a ea y = sym (rw (← ea, y) (or-true b))
@@ -94,33 +96,62 @@ held-of ws (At j) i e = by (holds ws j)
     (λ y. let q : Nothing ≡ At i = sym (rw y) ∙ e in absurd (let z : _≡_ {A = ℕ} 0 1 = cc in omega arith))
 held-of ws Nothing i e = absurd (let z : _≡_ {A = ℕ} 0 1 = cc in omega arith)
 
-pub not-held : (ws : List ℕ) (f : Found) → amongMembers ws f ≡ Nothing → heldAt ws f ≡ false
-unfolding amongMembers heldAt
+pub not-held : (ws : List ℕ) (f : Found) → amongMembers ws f ≡ Nothing → passes (holds ws) f ≡ false
+unfolding amongMembers passes
 not-held ws (At j) e = by (holds ws j)
     (λ y. let q : At j ≡ Nothing = sym (rw y) ∙ e in absurd (let z : _≡_ {A = ℕ} 0 1 = cc in omega arith))
     (λ y. y)
 not-held ws Nothing e = refl
 
 pub not-held-at : (ws : List ℕ) (f : Found) (i : ℕ) → f ≡ At i → amongMembers ws f ≡ Nothing → holds ws i ≡ false
-unfolding heldAt
+unfolding passes
 not-held-at ws f i e h = sym (rw e) ∙ not-held ws f h
 
-to-row : (g ws : List ℕ) (i : ℕ) (f : Found) → Successors g i ws → heldAt ws f ≡ edgeTo g i f
-unfolding heldAt edgeTo
+to-row : (g ws : List ℕ) (i : ℕ) (f : Found) → Successors g i ws → passes (holds ws) f ≡ passes (edge g i) f
+unfolding passes
 to-row g ws i (At j) h = h .each j
 to-row g ws i Nothing h = refl
 
+-- what a name finds is observable, so that the tests are the bits of the words
+pub found-visible : (s : List ℕ) (x : Name) (i : ℕ) → findModule s x ≡ At i → isVisible (modules s) i ≡ true
+found-visible s x i e = located-visible x (modules s) i (set-located s x i e)
+
+edge-found : (s : List ℕ) (c : Configuration) (y : Name) (i : ℕ) → isVisible (modules s) i ≡ true → (f : Found) → findModule s y ≡ f
+    → passes (hasEdge (modules s) c i) f ≡ passes (edge (c .reads) i) f
+unfolding passes
+edge-found s c y i v (At j) e = edge-bit (modules s) c i j v (found-visible s y j e)
+edge-found s c y i v Nothing e = refl
+
+pub edge-to : (s : List ℕ) (c : Configuration) (y : Name) (i : ℕ) → isVisible (modules s) i ≡ true
+    → edgeTo s c y i ≡ passes (edge (c .reads) i) (findModule s y) || (sameBytes y allUnnamed && holds (c .unnamed) i)
+unfolding edgeTo
+edge-to s c y i v = rw (edge-found s c y i v (findModule s y) refl, unnamed-bit (modules s) c i v)
+
+member-found : (s : List ℕ) (c : Configuration) (x : Name) (f : Found) → findModule s x ≡ f → passes (hasMember (modules s) c) f ≡ passes (holds (c .members)) f
+unfolding passes
+member-found s c x (At i) e = member-bit (modules s) c i (found-visible s x i e)
+member-found s c x Nothing e = refl
+
+pub member-by : (s : List ℕ) (c : Configuration) (x : Name) → isMember s c x ≡ passes (holds (c .members)) (findModule s x)
+unfolding isMember
+member-by s c x = member-found s c x (findModule s x) refl
+
 module _ (s : List ℕ) (c : Configuration) (x y : Name) (m : Found) (em : m ≡ memberIn s (c .members) x) where
   pub reads-from : (i : ℕ) (last : Bool) (ws : List ℕ) (r : Bool) → m ≡ At i → last ≡ holds (c .unnamed) i → Successors (c .reads) i ws
-      → r ≡ heldAt ws (findModule s y) || (sameBytes y allUnnamed && last) → r ≡ readsName s c x y
-  unfolding readsName isMember edgeFrom memberIn heldAt
+      → r ≡ passes (holds ws) (findModule s y) || (sameBytes y allUnnamed && last) → r ≡ readsName s c x y
+  unfolding readsName isReader passes memberIn
   reads-from i last ws r ei el h er =
       let p = held-of (c .members) (findModule s x) i (sym em ∙ ei) in
-      er ∙ rw (to-row (c .reads) ws i (findModule s y) h, el) (sym (rw (p .0) (rw (p .1))))
+      let v = found-visible s x i (p .0) in
+      er ∙ rw (to-row (c .reads) ws i (findModule s y) h, el) (sym (rw (p .0) (rw (member-bit (modules s) c i v, p .1) (edge-to s c y i v))))
 
   pub reads-none : m ≡ Nothing → false ≡ readsName s c x y
-  unfolding readsName isMember memberIn
-  reads-none en = sym (rw (not-held (c .members) (findModule s x) (sym em ∙ en)))
+  unfolding readsName isReader memberIn
+  reads-none en = turned (findModule s x) refl (not-held (c .members) (findModule s x) (sym em ∙ en))
+    where
+      turned : (f : Found) → findModule s x ≡ f → passes (holds (c .members)) f ≡ false → false ≡ passes (isReader s c y) f
+      turned (At i) e h = unfold passes isReader in sym (rw (member-bit (modules s) c i (found-visible s x i e) ∙ h))
+      turned Nothing e h = unfold passes in refl
 
 pub ruleset reads-laws = (reads-from, reads-none)
 
@@ -253,13 +284,17 @@ module _ (s : List ℕ) (n : ℕ) (t : List ℕ) (k : checkSet s ≡ record { an
   good = good-set s n t k
 
   resolved : (f : Found) → findModule s x ≡ f → moduleOf s t (amongMembers (c .members) f) ≡ resolvedModule s c x
-  unfolding moduleOf amongMembers resolvedModule isMember heldAt
-  resolved (At i) e = by (holds (c .members) i)
-      (λ y. let l : Located x (modules s) i = set-located s x i e in
+  unfolding moduleOf amongMembers resolvedModule passes
+  resolved (At i) e =
+      let h : isMember s c x ≡ holds (c .members) i = member-by s c x ∙ ap (passes (holds (c .members))) e in
+      by (holds (c .members) i)
+      (λ y.
+      let l : Located x (modules s) i = set-located s x i e in
       let m : moduleAt (modules s) i ≡ descriptorOf (blockAt s t i) = module-block s n t good i (omega (arith, l .within, set-length s n t good)) in
-      rw (e, y) (sym (l .is ∙ ap some m)))
-      (λ y. rw (e, y))
-  resolved Nothing e = rw e
+      let b : isMember s c x ≡ true = h ∙ y in
+      rw (y, b) (sym (l .is ∙ ap some m)))
+      (λ y. let b : isMember s c x ≡ false = h ∙ y in rw (y, b))
+  resolved Nothing e = let b : isMember s c x ≡ false = member-by s c x ∙ ap (passes (holds (c .members))) e in rw b
 
   pub resolved-is : (m : Found) → m ≡ memberIn s (c .members) x → moduleOf s t m ≡ resolvedModule s c x
   unfolding memberIn

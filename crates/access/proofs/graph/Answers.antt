@@ -1,9 +1,9 @@
 -- What `graph` answers: a row of positions, or a refusal of the set, which is checked first.
 use mathlib.Core.Path.{_≡_, refl, sym, ap, _∙_, subst}
-use mathlib.Core.Bool.{Bool, true, false, _&&_, _||_, and-assoc}
+use mathlib.Core.Bool.{Bool, true, false, _&&_, _||_, and-false}
 use mathlib.Core.List.{List, [], _∷_, map}
-use mathlib.Core.Logic.{⊎-elim}
-use Prim.Native.Nat.{ℕ, _-_, _≤_, _<_}
+use mathlib.Core.Logic.{inl, inr, ⊎-elim}
+use Prim.Native.Nat.{ℕ, _+_, _-_, _≤_, _<_}
 use native.Mathlib.Omega.{arith}
 use mir.Syntax.{w64}
 use mir.Val.{Fits}
@@ -13,7 +13,8 @@ use borrow.Author.Tests.{lt-ltb}
 use Rattle.records.specs.Bytes.{sameBytes}
 use Rattle.records.specs.Name.{allUnnamed}
 use Rattle.records.specs.Set.{nameAt, modules, checkSet}
-use Rattle.records.specs.Finder.{findName, findModule}
+use Rattle.records.specs.Finder.{findName, findModule, isFirst}
+use Rattle.records.specs.Index.{Indexed}
 use Rattle.records.specs.declared.error.ModuleError.{ModuleError}
 use Rattle.records.specs.declared.finder.Found.{Found}
 use Rattle.records.specs.declared.finder.Found.the-variants.{At, Nothing}
@@ -21,24 +22,31 @@ use Rattle.records.specs.declared.set.Checked.{Checked}
 use Rattle.records.specs.declared.set.SetAnswer.{SetAnswer}
 use Rattle.records.specs.declared.set.SetAnswer.the-variants.{Modules}
 use Rattle.records.specs.declared.set.SetAnswer.the-variants as Set
-use Rattle.records.proofs.Logic.{clash, true≠false, and-left, and-right, and-both}
-use Rattle.records.proofs.finder.Modules.{find-is, find-by-name}
+use Rattle.records.proofs.Logic.{by, clash, true≠false, and-left}
+use Rattle.records.proofs.finder.Modules.{find-is}
+use Rattle.records.proofs.index.Laws.{indexed-none}
 use Rattle.records.proofs.set.Blocks.{GoodSet, good-set}
 use Rattle.resolution.specs.Lists.{Name}
-use Rattle.resolution.specs.Row.{holds, Empty}
+use Rattle.resolution.specs.Positions.{isVisible}
+use Rattle.resolution.specs.Observed.{hasMember, hasEdge, hasUnnamedEdge}
+use Rattle.resolution.specs.Lookup.{Lookup}
+use Rattle.resolution.specs.Row.{holds, Empty, Added}
 use Rattle.resolution.specs.Graph.{edge}
 use Rattle.resolution.specs.Readability.{Holding}
 use Rattle.resolution.specs.Resolve.{words}
 use Rattle.resolution.specs.declared.configuration.Configuration.{Configuration}
-use Rattle.resolution.proofs.Sets.{set-length}
-use Rattle.access.specs.Access.{edgeTo, edgeFrom}
+use Rattle.resolution.proofs.Observed.{member-bit}
+use Rattle.resolution.proofs.Positions.{visible-in}
+use Rattle.resolution.proofs.Sets.{set-length, starts-room, visible-start}
+use Rattle.access.specs.Access.{passes, edgeTo, isReader}
 use Rattle.access.specs.Members.{memberIn}
-use Rattle.access.specs.ReadGraph.{countsAt, readsAt, readsUnnamedAt, Leads, step, then, refusedGraph, isReader, readersAnswered, readersOf, LeadsToUnnamed, LedFrom, TransitiveReads}
-use Rattle.access.specs.GraphSteps.{Told, readerAt, readerBelow, Onward}
+use Rattle.access.specs.ReadGraph.{readsAt, readsUnnamedAt, Leads, step, then, LeadsToOne, refusedGraph, readersAnswered, readersOf, LeadsToUnnamed, LedFrom, TransitiveReads}
+use Rattle.access.specs.GraphSteps.{Told, readerAt, readerBelow, heldBoth, countsAt, edgeCounts, unnamedCounts, Masked, Onward}
 use Rattle.access.specs.declared.graph.GraphOutcome.the-variants.{Answered, Refused}
 use Rattle.access.specs.declared.graph.GraphAnswer.{GraphAnswer}
-use Rattle.access.proofs.access.Laws.{held-of, not-held-at, can-set}
+use Rattle.access.proofs.access.Laws.{held-of, not-held-at, found-visible, edge-to, can-set}
 use Rattle.resolution.proofs.Words.{words-are}
+use Rattle.access.proofs.graph.Rows.{PassedAt, passed-start, passed-end, passed-not, passed-more}
 
 -- ---- the answers
 
@@ -56,18 +64,106 @@ own-words row u r t =
     subst (λ (x : List ℕ). x ≡ words (holds x) 4) (sym q) (t .by-words (holds row) (λ k l. refl))
 
 -- only a member leads anywhere
-counts-member : (n : ℕ) (ws : List ℕ) (a : ℕ) → countsAt n ws a ≡ true → holds ws a ≡ true
-unfolding countsAt
-counts-member n ws a e = and-right (ltb a n) (holds ws a) e
+module _ (s : List ℕ) (c : Configuration) (a : ℕ) where
+  unnamed-counts : readsUnnamedAt s c a ≡ true → hasMember (modules s) c a ≡ true
+  unfolding readsUnnamedAt
+  unnamed-counts e = and-left (hasMember (modules s) c a) (hasUnnamedEdge (modules s) c a) e
 
-unnamed-counts : (n : ℕ) (ws un : List ℕ) (a : ℕ) → readsUnnamedAt n ws un a ≡ true → countsAt n ws a ≡ true
-unfolding readsUnnamedAt
-unnamed-counts n ws un a e = and-left (countsAt n ws a) (holds un a) e
+  leads-counts : (j : ℕ) → Leads (readsAt s c) a j → hasMember (modules s) c a ≡ true
+  unfolding readsAt
+  leads-counts j (step e) = and-left (hasMember (modules s) c a) (hasEdge (modules s) c a j) e
+  leads-counts j (then {j = b} f e) = leads-counts b f
 
-leads-counts : (n : ℕ) (ws g : List ℕ) (a j : ℕ) → Leads n ws g a j → countsAt n ws a ≡ true
-unfolding readsAt
-leads-counts n ws g a j (step e) = and-left (countsAt n ws a) (ltb j n && edge g a j) e
-leads-counts n ws g a j (then {j = b} f e) = leads-counts n ws g a b f
+-- what edges of one test lead to, those of another that is the same lead to
+module _ (r₁ r₂ : ℕ → ℕ → Bool) (u₁ u₂ : ℕ → Bool) (same : (i j : ℕ) → r₁ i j ≡ r₂ i j) (also : (i : ℕ) → u₁ i ≡ u₂ i) where
+  pub leads-over : (i k : ℕ) → Leads r₁ i k → Leads r₂ i k
+  leads-over i k (step e) = step (sym (same i k) ∙ e)
+  leads-over i k (then {j = j} f e) = then (leads-over i j f) (sym (same j k) ∙ e)
+
+  pub one-over : (i : ℕ) → LeadsToOne r₁ u₁ i → LeadsToOne r₂ u₂ i
+  one-over i x = ⊎-elim (λ y. inl (sym (also i) ∙ y)) (λ y. inr (y .0, leads-over i (y .0) (y .1), sym (also (y .0)) ∙ y .2)) x
+
+-- the rows of the modules that are not hidden, and of the members among them
+module _ (s : List ℕ) (n : ℕ) (t : List ℕ) (good : GoodSet s n t) (ws seen own : List ℕ) (hs : Holding seen (isVisible (modules s))) (ho : Holding own (heldBoth n seen ws)) where
+  abbrev vis : ℕ → Bool
+  vis = isVisible (modules s)
+
+  vis-below : (k : ℕ) → vis k ≡ true → k < n
+  vis-below k y = omega (arith, visible-in (modules s) k y, set-length s n t good)
+
+  own-is : (k : ℕ) → holds own k ≡ countsAt vis ws k
+  unfolding heldBoth countsAt
+  own-is k = ho .each k ∙ ap (λ (b : Bool). ltb k n && (b && holds ws k)) (hs .each k) ∙ by (vis k) (λ y. rw (y, lt-ltb k n (vis-below k y))) (λ y. rw y (and-false (ltb k n)))
+
+  masked : Masked n seen own
+  unfolding countsAt
+  masked = record {
+    within = λ k e. vis-below k (sym (hs .each k) ∙ e);
+    inside = λ k e. hs .each k ∙ and-left (vis k) (holds ws k) (sym (own-is k) ∙ e);
+  }
+
+-- what code finds by them is what the configuration says
+module _ (s : List ℕ) (n : ℕ) (t : List ℕ) (good : GoodSet s n t) (c : Configuration) (seen own : List ℕ) (hs : Holding seen (isVisible (modules s))) (ho : Holding own (heldBoth n seen (c .members))) where
+  counts-is : (k : ℕ) → countsAt (holds seen) own k ≡ hasMember (modules s) c k
+  unfolding countsAt hasMember
+  counts-is k = rw (hs .each k, own-is s n t good (c .members) seen own hs ho k) (by (isVisible (modules s) k) (λ y. rw y) (λ y. rw y))
+
+  reads-is : (i j : ℕ) → edgeCounts (holds seen) own (c .reads) i j ≡ readsAt s c i j
+  unfolding edgeCounts readsAt hasEdge hasMember
+  reads-is i j = rw (counts-is i, hs .each j) (by (isVisible (modules s) i) (λ y. rw y) (λ y. rw y))
+
+  unnamed-is : (i : ℕ) → unnamedCounts (holds seen) own (c .unnamed) i ≡ readsUnnamedAt s c i
+  unfolding unnamedCounts readsUnnamedAt hasUnnamedEdge hasMember
+  unnamed-is i = rw (counts-is i) (by (isVisible (modules s) i) (λ y. rw y) (λ y. rw y))
+
+-- ---- the modules that are not hidden
+
+module _ (s : List ℕ) (n : ℕ) (t : List ℕ) (e : checkSet s ≡ record { answer = Modules n; starts = t }) where
+  pub visible-few : n ≤ 256
+  visible-few = good-set s n t e .few
+
+  pub visible-index : (index : List ℕ) → Indexed (map (nameAt s) (take n t)) index → Lookup s t n index
+  visible-index index x = record { few = visible-few; within = starts-room s n t e; indexed = x }
+
+  module _ (row : List ℕ) where
+    pub seen-start : Empty row → PassedAt (isVisible (modules s)) n row 0
+    seen-start h = passed-start (isVisible (modules s)) n row h
+
+    module _ (k : ℕ) (h : PassedAt (isVisible (modules s)) n row k) where
+      pub seen-end : n ≤ k → Holding row (isVisible (modules s))
+      seen-end l = record { each = λ j. passed-end (isVisible (modules s)) n row k h l j ∙ below j }
+        where
+          below : (j : ℕ) → ltb j n && isVisible (modules s) j ≡ isVisible (modules s) j
+          below j = by (isVisible (modules s) j)
+              (λ y. rw (y, lt-ltb j n (omega (arith, visible-in (modules s) j y, set-length s n t (good-set s n t e)))))
+              (λ y. rw y (and-false (ltb j n)))
+
+      module _ (l : k < n) (r : Bool) (er : r ≡ isFirst (map (nameAt s) (take n t)) (nameAt s (getD t k 0)) k) where
+        pub seen-not : r ≡ false → PassedAt (isVisible (modules s)) n row (k + 1)
+        seen-not y = passed-not (isVisible (modules s)) n row k h l (visible-start s n t e k l ∙ sym er ∙ y)
+
+        pub seen-more : (after : List ℕ) → r ≡ true → Added row k after → PassedAt (isVisible (modules s)) n after (k + 1)
+        seen-more after y a = passed-more (isVisible (modules s)) n row k h visible-few after l (visible-start s n t e k l ∙ sym er ∙ y) a
+
+-- what the index asks
+pub lookup-few : (s t index : List ℕ) (n : ℕ) → Lookup s t n index → n ≤ 256
+lookup-few s t index n x = x .few
+
+pub lookup-room : (s t index : List ℕ) (n : ℕ) → Lookup s t n index → n ≤ length t
+lookup-room s t index n x = x .within
+
+pub lookup-index : (s t index : List ℕ) (n : ℕ) → Lookup s t n index → Indexed (map (nameAt s) (take n t)) index
+lookup-index s t index n x = x .indexed
+
+pub ruleset seen-laws = (seen-start, seen-end, seen-not, seen-more, lookup-few, lookup-room, lookup-index)
+
+pub ruleset visible-laws = (indexed-none, visible-few, starts-room, visible-index)
+
+module _ (s : List ℕ) (n : ℕ) (t : List ℕ) (e : checkSet s ≡ record { answer = Modules n; starts = t }) where
+  pub members-are : (ws seen own : List ℕ) → Holding seen (isVisible (modules s)) → Holding own (heldBoth n seen ws) → Holding own (countsAt (isVisible (modules s)) ws)
+  members-are ws seen own hs ho = record { each = λ k. own-is s n t (good-set s n t e) ws seen own hs ho k }
+
+pub ruleset visible-members-laws = (visible-few, members-are)
 
 -- ---- the set is checked first
 
@@ -82,21 +178,27 @@ module _ (s : List ℕ) (c : Configuration) (y : Name) (k : Checked) (ek : k ≡
   unfolding readersOf readersAnswered
   readers-refused e r h er = er ∙ sym (ap (readersAnswered s c y) (answer-is (Set.Refused e) h))
 
-  pub readers-told : (n : ℕ) (f : Found) (asked : Bool) (row : List ℕ) (r : GraphAnswer) → k .answer ≡ Modules n
+  pub readers-told : (n : ℕ) (f : Found) (asked : Bool) (own row : List ℕ) (r : GraphAnswer) → k .answer ≡ Modules n
       → f ≡ findName (map (nameAt s) (take n (k .starts))) y 0 → asked ≡ sameBytes y allUnnamed
-      → Holding row (readerBelow n (c .members) (c .reads) (c .unnamed) f asked) → Told row false r → r ≡ readersOf s c y
-  unfolding readersOf readersAnswered readerBelow readerAt isReader countsAt edgeFrom
-  readers-told n f asked row r h ef ea w t =
+      → Holding own (countsAt (isVisible (modules s)) (c .members))
+      → Holding row (readerBelow n own (c .reads) (c .unnamed) f asked) → Told row false r → r ≡ readersOf s c y
+  unfolding readersOf readersAnswered readerBelow readerAt isReader countsAt hasMember
+  readers-told n f asked own row r h ef ea ho w t =
       t .is ∙ ap (λ (x : List ℕ). record { outcome = Answered; row = x; unnamed = false }) (t .by-words (isReader s c y) each)
       ∙ sym (ap (readersAnswered s c y) (answer-is (Modules n) h))
     where
       good : GoodSet s n (k .starts)
       good = good-set s n (k .starts) (can-set s k ek n h)
 
+      turned : (j : ℕ) → (b : Bool) → isVisible (modules s) j ≡ b → (m x z : Bool) → (b ≡ true → z ≡ x) → ltb j n && ((b && m) && x) ≡ (b && m) && z
+      turned j true e m x z q = rw (lt-ltb j n (omega (arith, visible-in (modules s) j e, set-length s n (k .starts) good)), q refl)
+      turned j false e m x z q = and-false (ltb j n)
+
       each : (j : ℕ) → j < 256 → holds row j ≡ isReader s c y j
       each j l = w .each j
-          ∙ rw (ef ∙ find-is s n (k .starts) good y, ea, set-length s n (k .starts) good)
-          (sym (and-assoc (ltb j n) (holds (c .members) j) (edgeTo (c .reads) j (findModule s y) || (sameBytes y allUnnamed && holds (c .unnamed) j))))
+          ∙ rw (ef ∙ find-is s n (k .starts) good y, ea, ho .each j)
+          (turned j (isVisible (modules s) j) refl (holds (c .members) j)
+          (passes (edge (c .reads) j) (findModule s y) || (sameBytes y allUnnamed && holds (c .unnamed) j)) (edgeTo s c y j) (λ v. edge-to s c y j v))
 
   pub reads-refused : (e : ModuleError) (r : GraphAnswer) → k .answer ≡ Set.Refused e → r ≡ refusedGraph e → TransitiveReads s c y r
   reads-refused e r h er = record {
@@ -108,11 +210,15 @@ module _ (s : List ℕ) (c : Configuration) (y : Name) (k : Checked) (ek : k ≡
     good : GoodSet s n (k .starts)
     good = good-set s n (k .starts) (can-set s k ek n h)
 
-    pub reads-counts : (i : ℕ) → m ≡ At i → countsAt n (c .members) i ≡ true
-    unfolding memberIn countsAt
-    reads-counts i ei =
-        let p = held-of (c .members) (findModule s y) i (sym em ∙ ei) in
-        and-both (lt-ltb i n (find-by-name s n (k .starts) good y i (p .0) .0)) (p .1)
+    module _ (seen own : List ℕ) (hs : Holding seen (isVisible (modules s))) (ho : Holding own (heldBoth n seen (c .members))) where
+      pub reads-masked : Masked n seen own
+      reads-masked = masked s n (k .starts) good (c .members) seen own hs ho
+
+      pub reads-counts : (i : ℕ) → m ≡ At i → countsAt (holds seen) own i ≡ true
+      unfolding memberIn
+      reads-counts i ei =
+          let p = held-of (c .members) (findModule s y) i (sym em ∙ ei) in
+          counts-is s n (k .starts) good c seen own hs ho i ∙ member-bit (modules s) c i (found-visible s y i (p .0)) ∙ p .1
 
     answered : (r : GraphAnswer) → LedFrom s c y r → TransitiveReads s c y r
     answered r l = record {
@@ -120,19 +226,35 @@ module _ (s : List ℕ) (c : Configuration) (y : Name) (k : Checked) (ek : k ≡
       answered = λ n₂ h₂. l;
     }
 
-    pub reads-told : (i : ℕ) (r : GraphAnswer) → m ≡ At i → Onward n (c .members) (c .reads) (c .unnamed) i r → TransitiveReads s c y r
+    pub reads-told : (seen own : List ℕ) → Holding seen (isVisible (modules s)) → Holding own (heldBoth n seen (c .members))
+        → (i : ℕ) (r : GraphAnswer) → m ≡ At i → Onward (holds seen) own (c .reads) (c .unnamed) i r → TransitiveReads s c y r
     unfolding memberIn
-    reads-told i r ei o₀ = answered r (record {
+    reads-told seen own hs ho i r ei o = answered r (record {
       outcome = o .outcome;
       row-words = o .row-words;
-      row-sound = λ j e. (i, found, o .row-sound j e);
-      row-complete = λ a j e f. o .row-complete j (subst (λ (x : ℕ). Leads (length (modules s)) (c .members) (c .reads) x j) (same a e) f);
-      unnamed-sound = λ e. (i, found, o .unnamed-sound e);
-      unnamed-complete = λ a e x. o .unnamed-complete (subst (λ (z : ℕ). LeadsToUnnamed (length (modules s)) (c .members) (c .reads) (c .unnamed) z) (same a e) x);
+      row-sound = λ j e. (i, found, leads-over by-code (readsAt s c) un-code (readsUnnamedAt s c) rs us i j (o .row-sound j e));
+      row-complete = λ a j e f. o .row-complete j (leads-over (readsAt s c) by-code (readsUnnamedAt s c) un-code back-rs back-us i j (subst (λ (x : ℕ). Leads (readsAt s c) x j) (same a e) f));
+      unnamed-sound = λ e. (i, found, one-over by-code (readsAt s c) un-code (readsUnnamedAt s c) rs us i (o .unnamed-sound e));
+      unnamed-complete = λ a e x. o .unnamed-complete (one-over (readsAt s c) by-code (readsUnnamedAt s c) un-code back-rs back-us i (subst (λ (z : ℕ). LeadsToUnnamed s c z) (same a e) x));
     })
       where
-        o : Onward (length (modules s)) (c .members) (c .reads) (c .unnamed) i r
-        o = subst (λ (x : ℕ). Onward x (c .members) (c .reads) (c .unnamed) i r) (sym (set-length s n (k .starts) good)) o₀
+        by-code : ℕ → ℕ → Bool
+        by-code = edgeCounts (holds seen) own (c .reads)
+
+        un-code : ℕ → Bool
+        un-code = unnamedCounts (holds seen) own (c .unnamed)
+
+        rs : (a b : ℕ) → by-code a b ≡ readsAt s c a b
+        rs a b = reads-is s n (k .starts) good c seen own hs ho a b
+
+        us : (a : ℕ) → un-code a ≡ readsUnnamedAt s c a
+        us a = unnamed-is s n (k .starts) good c seen own hs ho a
+
+        back-rs : (a b : ℕ) → readsAt s c a b ≡ by-code a b
+        back-rs a b = sym (rs a b)
+
+        back-us : (a : ℕ) → readsUnnamedAt s c a ≡ un-code a
+        back-us a = sym (us a)
 
         found : findModule s y ≡ At i
         found = held-of (c .members) (findModule s y) i (sym em ∙ ei) .0
@@ -148,15 +270,15 @@ module _ (s : List ℕ) (c : Configuration) (y : Name) (k : Checked) (ek : k ≡
       row-sound = λ j e. true≠false (subst (λ (x : List ℕ). holds x j ≡ true) (ap (λ (x : GraphAnswer). x .row) (t .is)) e) (w .none j);
       row-complete = λ a j e f. absurd (no-path a j e f);
       unnamed-sound = λ e. true≠false e (ap (λ (x : GraphAnswer). x .unnamed) (t .is));
-      unnamed-complete = λ a e x. absurd (⊎-elim (λ z. no-counts a e (unnamed-counts (length (modules s)) (c .members) (c .unnamed) a z)) (λ z. no-path a (z .0) e (z .1)) x);
+      unnamed-complete = λ a e x. absurd (⊎-elim (λ z. no-counts a e (unnamed-counts s c a z)) (λ z. no-path a (z .0) e (z .1)) x);
     })
       where
-        no-counts : (a : ℕ) → findModule s y ≡ At a → countsAt (length (modules s)) (c .members) a ≡ true → ⊥
-        no-counts a e h₂ = true≠false (counts-member (length (modules s)) (c .members) a h₂) (not-held-at (c .members) (findModule s y) a e (sym em ∙ en))
+        no-counts : (a : ℕ) → findModule s y ≡ At a → hasMember (modules s) c a ≡ true → ⊥
+        no-counts a e h₂ = true≠false (sym (member-bit (modules s) c a (found-visible s y a e)) ∙ h₂) (not-held-at (c .members) (findModule s y) a e (sym em ∙ en))
 
-        no-path : (a j : ℕ) → findModule s y ≡ At a → Leads (length (modules s)) (c .members) (c .reads) a j → ⊥
-        no-path a j e f = no-counts a e (leads-counts (length (modules s)) (c .members) (c .reads) a j f)
+        no-path : (a j : ℕ) → findModule s y ≡ At a → Leads (readsAt s c) a j → ⊥
+        no-path a j e f = no-counts a e (leads-counts s c a j f)
 
-pub ruleset readers-of-laws = (few, readers-refused, readers-told)
+pub ruleset readers-of-laws = (few, can-set, readers-refused, readers-told)
 
-pub ruleset transitive-laws = (few, can-set, reads-refused, reads-counts, reads-told, reads-none)
+pub ruleset transitive-laws = (few, can-set, reads-refused, reads-masked, reads-counts, reads-told, reads-none)

@@ -8,13 +8,13 @@ use native.Mathlib.Nat.{eq-or-lt-of-le, le-of-suc-le-suc}
 use native.Mathlib.Omega.{arith}
 use lib.Dec.{eqb, ltb}
 use borrow.Author.Tests.{eqb-true, ltb-true, ltb-false, lt-ltb, not-true, not-false}
-use Rattle.records.proofs.Logic.{by, true≠false, and-left, and-right, and-both, or-left, or-right, or-cases}
+use Rattle.records.proofs.Logic.{by, true≠false, and-left, and-right, and-both, and-split, or-left, or-right, or-cases}
 use Rattle.resolution.specs.Row.{holds, size, United}
 use Rattle.resolution.specs.Graph.{edge, Successors}
 use Rattle.resolution.specs.Readability.{Holding}
 use Rattle.resolution.proofs.row.Counts.{count-le, count-mono, count-strict}
-use Rattle.access.specs.ReadGraph.{countsAt, readsAt, readsUnnamedAt, Leads, step, then, LeadsToUnnamed}
-use Rattle.access.specs.GraphSteps.{Told, heldBelow, spreadAt, onwardAt, From, at, on, Swept, Gathered, anyBelow, unnamedIn, Onward}
+use Rattle.access.specs.ReadGraph.{Leads, step, then, LeadsToOne}
+use Rattle.access.specs.GraphSteps.{Told, heldBoth, countsAt, edgeCounts, unnamedCounts, Masked, spreadAt, onwardAt, From, at, on, Swept, Gathered, anyBelow, unnamedIn, Onward}
 use Rattle.access.specs.declared.graph.GraphAnswer.{GraphAnswer}
 use Rattle.access.proofs.graph.Answers.{own-words}
 use Rattle.access.proofs.graph.Rows.{before}
@@ -50,7 +50,7 @@ sweep-start n ws g row = record { kept = λ j h. h; sound = λ j h. at h; next =
 
 module _ (n : ℕ) (ws g row out : List ℕ) (k : ℕ) (s : SweepAt n ws g row out k) where
   pub sweep-more : (after : List ℕ) → k < n → Holding after (spreadAt out ws g k) → SweepAt n ws g row after (k + 1)
-  unfolding spreadAt onwardAt countsAt
+  unfolding spreadAt onwardAt
   sweep-more after l w = record {
     kept = λ j h. more j (s .kept j h);
     sound = λ j h. or-cases (holds out j) ((holds out k && holds ws k) && edge g k j) (sym (w .each j) ∙ h)
@@ -107,7 +107,7 @@ module _ (n : ℕ) (ws g row out : List ℕ) (s : GatherAt n ws g row out) (afte
         (λ y. absurd (omega (arith, ea, eb, q, count-strict (holds out) (holds after) 256 j l (λ k m z. w .kept k z) y h)))
 
     all : a ≡ b → (j : ℕ) → From n ws g row j → holds out j ≡ true
-    unfolding onwardAt countsAt edge
+    unfolding onwardAt edge
     all q j (at h) = s .kept j h
     all q j (on {j = i} f e) =
         let c : ltb i n && holds ws i ≡ true = and-left (ltb i n && holds ws i) (edge g i j) e in
@@ -182,62 +182,63 @@ pub ruleset any-laws = (any-start, any-end, any-here, any-more)
 
 -- ---- what a member leads to
 
-module _ (n : ℕ) (ws g un : List ℕ) (i : ℕ) (c : countsAt n ws i ≡ true) (own : List ℕ) (o : Successors g i own) (row : List ℕ) (h : Gathered n ws g own row) where
+module _ (n : ℕ) (seen ws g un : List ℕ) (i : ℕ) (mask : Masked n seen ws) (c : countsAt (holds seen) ws i ≡ true) (own : List ℕ) (o : Successors g i own) (row : List ℕ) (h : Gathered n ws g own row) where
   -- the target has a module
-  target : (j k : ℕ) → readsAt n ws g j k ≡ true → k < n
-  unfolding readsAt
-  target j k e = ltb-true k n (and-left (ltb k n) (edge g j k) (and-right (countsAt n ws j) (ltb k n && edge g j k) e))
+  target : (j k : ℕ) → edgeCounts (holds seen) ws g j k ≡ true → holds seen k ≡ true
+  unfolding edgeCounts
+  target j k e = and-left (holds seen k) (edge g j k) (and-right (countsAt (holds seen) ws j) (holds seen k && edge g j k) e)
 
-  leads-target : (k : ℕ) → Leads n ws g i k → k < n
+  leads-target : (k : ℕ) → Leads (edgeCounts (holds seen) ws g) i k → holds seen k ≡ true
   leads-target k (step e) = target i k e
   leads-target k (then {j = j} f e) = target j k e
 
-  from-leads : (k : ℕ) → Leads n ws g i k → From n ws g own k
-  unfolding readsAt onwardAt
-  from-leads k (step e) = at (o .each k ∙ and-right (ltb k n) (edge g i k) (and-right (countsAt n ws i) (ltb k n && edge g i k) e))
-  from-leads k (then {j = j} f e) = on (from-leads j f)
-      (and-both (and-left (countsAt n ws j) (ltb k n && edge g j k) e) (and-right (ltb k n) (edge g j k) (and-right (countsAt n ws j) (ltb k n && edge g j k) e)))
+  from-leads : (k : ℕ) → Leads (edgeCounts (holds seen) ws g) i k → From n ws g own k
+  unfolding edgeCounts onwardAt countsAt
+  from-leads k (step e) = at (o .each k ∙ and-right (holds seen k) (edge g i k) (and-right (countsAt (holds seen) ws i) (holds seen k && edge g i k) e))
+  from-leads k (then {j = j} f e) =
+      let m = and-split (holds seen j) (holds ws j) (and-left (countsAt (holds seen) ws j) (holds seen k && edge g j k) e) in
+      on (from-leads j f) (and-both (and-both (lt-ltb j n (mask .within j (m .0))) (m .1)) (and-right (holds seen k) (edge g j k) (and-right (countsAt (holds seen) ws j) (holds seen k && edge g j k) e)))
 
-  leads-from : (k : ℕ) → k < n → From n ws g own k → Leads n ws g i k
-  unfolding readsAt onwardAt countsAt
-  leads-from k l (at e) = step (and-both c (and-both (lt-ltb k n l) (sym (o .each k) ∙ e)))
-  leads-from k l (on {j = j} f e) =
-      let m : ltb j n && holds ws j ≡ true = and-left (ltb j n && holds ws j) (edge g j k) e in
-      then (leads-from j (ltb-true j n (and-left (ltb j n) (holds ws j) m)) f) (and-both m (and-both (lt-ltb k n l) (and-right (ltb j n && holds ws j) (edge g j k) e)))
+  leads-from : (k : ℕ) → holds seen k ≡ true → From n ws g own k → Leads (edgeCounts (holds seen) ws g) i k
+  unfolding edgeCounts onwardAt countsAt
+  leads-from k v (at e) = step (and-both c (and-both v (sym (o .each k) ∙ e)))
+  leads-from k v (on {j = j} f e) =
+      let w : holds ws j ≡ true = and-right (ltb j n) (holds ws j) (and-left (ltb j n && holds ws j) (edge g j k) e) in
+      let y : holds seen j ≡ true = mask .inside j w in
+      then (leads-from j y f) (and-both (and-both y w) (and-both v (and-right (ltb j n && holds ws j) (edge g j k) e)))
 
-  module _ (low : List ℕ) (w : Holding low (heldBelow n row)) where
-    low-out : (k : ℕ) → holds low k ≡ true → Leads n ws g i k
-    unfolding heldBelow
+  module _ (low : List ℕ) (w : Holding low (heldBoth n seen row)) where
+    low-out : (k : ℕ) → holds low k ≡ true → Leads (edgeCounts (holds seen) ws g) i k
+    unfolding heldBoth
     low-out k e =
-        let m : ltb k n && holds row k ≡ true = sym (w .each k) ∙ e in
-        leads-from k (ltb-true k n (and-left (ltb k n) (holds row k) m)) (h .sound k (and-right (ltb k n) (holds row k) m))
+        let m = and-split (holds seen k) (holds row k) (and-right (ltb k n) (holds seen k && holds row k) (sym (w .each k) ∙ e)) in
+        leads-from k (m .0) (h .sound k (m .1))
 
-    low-in : (k : ℕ) → Leads n ws g i k → holds low k ≡ true
-    unfolding heldBelow
-    low-in k f = w .each k ∙ and-both (lt-ltb k n (leads-target k f)) (h .complete k (from-leads k f))
+    low-in : (k : ℕ) → Leads (edgeCounts (holds seen) ws g) i k → holds low k ≡ true
+    unfolding heldBoth
+    low-in k f = let v = leads-target k f in w .each k ∙ and-both (lt-ltb k n (mask .within k v)) (and-both v (h .complete k (from-leads k f)))
 
   module _ (last : Bool) (el : last ≡ holds un i || anyBelow (unnamedIn row ws un) n) where
-    last-out : last ≡ true → LeadsToUnnamed n ws g un i
-    unfolding unnamedIn readsUnnamedAt countsAt
+    last-out : last ≡ true → LeadsToOne (edgeCounts (holds seen) ws g) (unnamedCounts (holds seen) ws un) i
+    unfolding unnamedIn unnamedCounts countsAt
     last-out e = or-cases (holds un i) (anyBelow (unnamedIn row ws un) n) (sym el ∙ e)
         (λ y. inl (and-both c y))
         (λ y. let r = any-of (unnamedIn row ws un) n y in
-        let m : holds ws (r .0) && holds un (r .0) ≡ true = and-right (holds row (r .0)) (holds ws (r .0) && holds un (r .0)) (r .2) in
-        inr (
-          r .0,
-          leads-from (r .0) (r .1) (h .sound (r .0) (and-left (holds row (r .0)) (holds ws (r .0) && holds un (r .0)) (r .2))),
-          and-both (and-both (lt-ltb (r .0) n (r .1)) (and-left (holds ws (r .0)) (holds un (r .0)) m)) (and-right (holds ws (r .0)) (holds un (r .0)) m),
-        ))
+        let m = and-split (holds row (r .0)) (holds ws (r .0) && holds un (r .0)) (r .2) in
+        let u = and-split (holds ws (r .0)) (holds un (r .0)) (m .1) in
+        let v : holds seen (r .0) ≡ true = mask .inside (r .0) (u .0) in
+        inr (r .0, leads-from (r .0) v (h .sound (r .0) (m .0)), and-both (and-both v (u .0)) (u .1)))
 
-    last-in : LeadsToUnnamed n ws g un i → last ≡ true
-    unfolding unnamedIn readsUnnamedAt countsAt
+    last-in : LeadsToOne (edgeCounts (holds seen) ws g) (unnamedCounts (holds seen) ws un) i → last ≡ true
+    unfolding unnamedIn unnamedCounts countsAt
     last-in x = el ∙ ⊎-elim
-        (λ y. or-left (holds un i) (anyBelow (unnamedIn row ws un) n) (and-right (ltb i n && holds ws i) (holds un i) y))
-        (λ y. or-right (holds un i) (anyBelow (unnamedIn row ws un) n) (any-at (unnamedIn row ws un) n (y .0) (leads-target (y .0) (y .1))
-        (and-both (h .complete (y .0) (from-leads (y .0) (y .1))) (and-both (and-right (ltb (y .0) n) (holds ws (y .0)) (and-left (ltb (y .0) n && holds ws (y .0)) (holds un (y .0)) (y .2))) (and-right (ltb (y .0) n && holds ws (y .0)) (holds un (y .0)) (y .2)))))) x
+        (λ y. or-left (holds un i) (anyBelow (unnamedIn row ws un) n) (and-right (holds seen i && holds ws i) (holds un i) y))
+        (λ y. let u = and-split (holds seen (y .0) && holds ws (y .0)) (holds un (y .0)) (y .2) in
+        or-right (holds un i) (anyBelow (unnamedIn row ws un) n) (any-at (unnamedIn row ws un) n (y .0) (mask .within (y .0) (leads-target (y .0) (y .1)))
+        (and-both (h .complete (y .0) (from-leads (y .0) (y .1))) (and-both (and-right (holds seen (y .0)) (holds ws (y .0)) (u .0)) (u .1))))) x
 
-  pub onward-is : (low : List ℕ) (last : Bool) (r : GraphAnswer) → Holding low (heldBelow n row)
-      → last ≡ holds un i || anyBelow (unnamedIn row ws un) n → Told low last r → Onward n ws g un i r
+  pub onward-is : (low : List ℕ) (last : Bool) (r : GraphAnswer) → Holding low (heldBoth n seen row)
+      → last ≡ holds un i || anyBelow (unnamedIn row ws un) n → Told low last r → Onward (holds seen) ws g un i r
   onward-is low last r w el t = record {
     outcome = ap (λ (x : GraphAnswer). x .outcome) (t .is);
     row-words = own-words low last r t;

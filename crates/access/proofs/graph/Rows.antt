@@ -10,20 +10,20 @@ use Rattle.records.specs.declared.finder.Found.{Found}
 use Rattle.records.specs.declared.finder.Found.the-variants.{At, Nothing}
 use Rattle.records.proofs.Logic.{by, true≠false}
 use Rattle.resolution.specs.Row.{holds, Empty, Added}
-use Rattle.resolution.specs.Graph.{Successors}
+use Rattle.resolution.specs.Graph.{edge, Successors}
 use Rattle.resolution.specs.Readability.{Holding}
-use Rattle.access.specs.Access.{edgeTo}
-use Rattle.access.specs.GraphSteps.{readerAt, readerBelow, heldBelow}
+use Rattle.access.specs.Access.{passes}
+use Rattle.access.specs.GraphSteps.{readerAt, readerBelow, heldBoth}
 
 -- ---- who reads what is found
 
 module _ (g : List ℕ) (i : ℕ) (f : Found) where
-  pub found-at : (j : ℕ) (ws : List ℕ) (r : Bool) → f ≡ At j → Successors g i ws → r ≡ holds ws j → r ≡ edgeTo g i f
-  unfolding edgeTo
+  pub found-at : (j : ℕ) (ws : List ℕ) (r : Bool) → f ≡ At j → Successors g i ws → r ≡ holds ws j → r ≡ passes (edge g i) f
+  unfolding passes
   found-at j ws r e h er = er ∙ h .each j ∙ sym (rw e)
 
-  pub found-none : f ≡ Nothing → false ≡ edgeTo g i f
-  unfolding edgeTo
+  pub found-none : f ≡ Nothing → false ≡ passes (edge g i) f
+  unfolding passes
   found-none e = sym (rw e)
 
 pub ruleset found-laws = (found-at, found-none)
@@ -33,7 +33,7 @@ module _ (ws g un : List ℕ) (f : Found) (u : Bool) (k : ℕ) (a : Bool) (ea : 
   unfolding readerAt
   reader-not y = sym (rw (← ea, not-true a y))
 
-  module _ (y : not a ≡ false) (e : Bool) (ee : e ≡ edgeTo g k f) where
+  module _ (y : not a ≡ false) (e : Bool) (ee : e ≡ passes (edge g k) f) where
     pub reader-edge : e ≡ true → true ≡ readerAt ws g un f u k
     unfolding readerAt
     reader-edge z = sym (rw (← ea, not-false a y, ← ee, z))
@@ -60,16 +60,16 @@ pub before : (j k : ℕ) → j < k + 1 → eqb j k ≡ false → j < k
 before j k b y = by (ltb j k) (λ z. ltb-true j k z) (λ z. true≠false (eq-eqb j k (omega (arith, ltb-false j k z))) y)
 
 module _ (p : ℕ → Bool) (n : ℕ) (ws : List ℕ) where
-  passed-start : Empty ws → PassedAt p n ws 0
+  pub passed-start : Empty ws → PassedAt p n ws 0
   passed-start h = record { within = omega arith; so-far = λ j l. absurd (omega arith); later = λ j l. h .none j }
 
   module _ (k : ℕ) (h : PassedAt p n ws k) where
-    passed-end : n ≤ k → (j : ℕ) → holds ws j ≡ ltb j n && p j
+    pub passed-end : n ≤ k → (j : ℕ) → holds ws j ≡ ltb j n && p j
     passed-end l j = by (ltb j n)
         (λ y. rw y (h .so-far j (omega (arith, ltb-true j n y, l))))
         (λ y. rw y (h .later j (omega (arith, ltb-false j n y, h .within))))
 
-    passed-not : k < n → p k ≡ false → PassedAt p n ws (k + 1)
+    pub passed-not : k < n → p k ≡ false → PassedAt p n ws (k + 1)
     passed-not l f = record {
       within = omega arith;
       so-far = λ j b. by (eqb j k)
@@ -78,7 +78,7 @@ module _ (p : ℕ → Bool) (n : ℕ) (ws : List ℕ) where
       later = λ j b. h .later j (omega arith);
     }
 
-    passed-more : n ≤ 256 → (after : List ℕ) → k < n → p k ≡ true → Added ws k after → PassedAt p n after (k + 1)
+    pub passed-more : n ≤ 256 → (after : List ℕ) → k < n → p k ≡ true → Added ws k after → PassedAt p n after (k + 1)
     passed-more m after l f a = record {
       within = omega arith;
       so-far = λ j b. added j ∙ by (eqb j k)
@@ -108,20 +108,28 @@ module _ (ws g un : List ℕ) (f : Found) (u : Bool) (n : ℕ) (row : List ℕ) 
 
 pub ruleset readers-laws = (readers-start, readers-end, readers-not, readers-more)
 
-module _ (row : List ℕ) (n : ℕ) (out : List ℕ) where
-  pub below-start : Empty out → PassedAt (holds row) n out 0
-  below-start h = passed-start (holds row) n out h
+-- the test of both rows
+abbrev pub bothAt : List ℕ → List ℕ → ℕ → Bool
+bothAt seen row k = holds seen k && holds row k
 
-  module _ (k : ℕ) (h : PassedAt (holds row) n out k) where
-    pub below-end : n ≤ k → Holding out (heldBelow n row)
-    unfolding heldBelow
-    below-end l = record { each = λ j. passed-end (holds row) n out k h l j }
+module _ (seen row : List ℕ) (n : ℕ) (out : List ℕ) where
+  pub both-start : Empty out → PassedAt (bothAt seen row) n out 0
+  both-start h = passed-start (bothAt seen row) n out h
 
-    module _ (l : k < n) (r : Bool) (er : r ≡ holds row k) where
-      pub below-not : r ≡ false → PassedAt (holds row) n out (k + 1)
-      below-not y = passed-not (holds row) n out k h l (sym er ∙ y)
+  module _ (k : ℕ) (h : PassedAt (bothAt seen row) n out k) where
+    pub both-end : n ≤ k → Holding out (heldBoth n seen row)
+    unfolding heldBoth
+    both-end l = record { each = λ j. passed-end (bothAt seen row) n out k h l j }
 
-      pub below-more : n ≤ 256 → (after : List ℕ) → r ≡ true → Added out k after → PassedAt (holds row) n after (k + 1)
-      below-more m after y a = passed-more (holds row) n out k h m after l (sym er ∙ y) a
+    module _ (l : k < n) (a : Bool) (ea : a ≡ holds seen k) where
+      pub both-hidden : a ≡ false → PassedAt (bothAt seen row) n out (k + 1)
+      both-hidden y = passed-not (bothAt seen row) n out k h l (rw (← ea, y))
 
-pub ruleset below-laws = (below-start, below-end, below-not, below-more)
+      module _ (x : a ≡ true) (r : Bool) (er : r ≡ holds row k) where
+        pub both-not : r ≡ false → PassedAt (bothAt seen row) n out (k + 1)
+        both-not y = passed-not (bothAt seen row) n out k h l (rw (← ea, x) (sym er ∙ y))
+
+        pub both-more : n ≤ 256 → (after : List ℕ) → r ≡ true → Added out k after → PassedAt (bothAt seen row) n after (k + 1)
+        both-more m after y d = passed-more (bothAt seen row) n out k h m after l (rw (← ea, x) (sym er ∙ y)) d
+
+pub ruleset both-laws = (both-start, both-end, both-hidden, both-not, both-more)

@@ -12,13 +12,14 @@ use Rattle.records.specs.Output.{nameBytes}
 use Rattle.records.specs.declared.record.Kind.the-variants as Kind
 use Rattle.records.proofs.Logic.{and-left, and-right}
 use Rattle.records.proofs.order.Ordered.{ordered-all}
+use Rattle.records.proofs.set.Steps.{isInner}
 use Rattle.class_reader.specs.Pool.{isNameText}
 use Rattle.class_reader.specs.Entry.{entryEnd, isEntry, kindOf, entryItem, entriesGood, entriesItems, tableGood, tableEnd, tableItems, tablesGood, tablesItems, moduleTables}
 use Rattle.class_reader.specs.Attribute.{packageNames, packageItem, packageItems}
 use Rattle.class_reader.specs.declared.entry.Entry.{Entry}
 use Rattle.class_reader.specs.declared.entry.Entry.the-variants.{Package}
 use Rattle.class_reader.proofs.entry.Bodies.{alone-made, entry-body}
-use Rattle.class_reader.proofs.class_file.Passes.{isInner, allInner, inner-append}
+use Rattle.class_reader.proofs.class_file.Passes.{allInner, inner-append}
 use Rattle.class_reader.proofs.class_file.PackageTable.{package-names}
 
 -- ---- tables

@@ -14,11 +14,12 @@ use Rattle.records.specs.Descriptor.{moduleName}
 use Rattle.records.specs.Set.{isPlaced, passAt, judgeAt, goOn, accepted, checkFrom}
 use Rattle.records.specs.Output.{recordBytes}
 use Rattle.records.specs.declared.record.Kind.{Kind}
-use Rattle.records.specs.declared.record.Kind.the-variants.{Module, Requires, Exports, Opens, Uses, Provides, Package, MainClass, Root, LimitModules, AddReads, AddExports, AddOpens, Other}
-use Rattle.records.proofs.Logic.{clash, and-left, and-right, neither-left}
+use Rattle.records.specs.declared.record.Kind.the-variants.{Module, MainClass}
+use Rattle.records.proofs.Logic.{and-left, and-right, neither-left}
 use Rattle.records.proofs.output.Made.{made-mark, made-body, made-records}
 use Rattle.records.proofs.record.Laws.{records-end}
 use Rattle.records.proofs.jar.Sets.{OneModule, one, passes, one-module}
+use Rattle.records.proofs.set.Steps.{isInner}
 use Rattle.class_reader.specs.Entry.{Item, bytesOf, isLarge}
 use Rattle.class_reader.proofs.entry.Items.{bytes-long}
 use Rattle.class_reader.proofs.output.Items.{rest-fits}
@@ -46,22 +47,6 @@ items-records (i ∷ is) e =
 
 -- ---- records behind an MO, and before an MC
 
-unfoldable pub isInner : Kind → Bool
-isInner Module = false
-isInner Requires = true
-isInner Exports = true
-isInner Opens = true
-isInner Uses = true
-isInner Provides = true
-isInner Package = true
-isInner MainClass = false
-isInner Root = false
-isInner LimitModules = false
-isInner AddReads = false
-isInner AddExports = false
-isInner AddOpens = false
-isInner Other = false
-
 -- each item is such a record, with a well-formed body
 unfoldable pub allInner : List Item → Bool
 allInner [] = true
@@ -75,24 +60,6 @@ inner-append (i ∷ is) js e h =
     rw (and-left b (allInner is) e) (inner-append is js (and-right b (allInner is) e) h)
 
 module _ (s : List ℕ) where
-  inner-passes : (k : Kind) (at : ℕ) (b : List ℕ) (rs : List (List ℕ)) → isInner k ≡ true → isBody k b ≡ true
-      → checkFrom s one at (recordBytes k b ∷ rs) ≡ checkFrom s one (at + length (recordBytes k b)) rs
-  unfolding isInner isPlaced passAt setKind markFor
-  inner-passes Module at b rs e h = clash (cc)
-  inner-passes Requires at b rs e h = passes s Requires refl refl (λ a c. refl) at b rs h
-  inner-passes Exports at b rs e h = passes s Exports refl refl (λ a c. refl) at b rs h
-  inner-passes Opens at b rs e h = passes s Opens refl refl (λ a c. refl) at b rs h
-  inner-passes Uses at b rs e h = passes s Uses refl refl (λ a c. refl) at b rs h
-  inner-passes Provides at b rs e h = passes s Provides refl refl (λ a c. refl) at b rs h
-  inner-passes Package at b rs e h = passes s Package refl refl (λ a c. refl) at b rs h
-  inner-passes MainClass at b rs e h = clash (cc)
-  inner-passes Root at b rs e h = clash (cc)
-  inner-passes LimitModules at b rs e h = clash (cc)
-  inner-passes AddReads at b rs e h = clash (cc)
-  inner-passes AddExports at b rs e h = clash (cc)
-  inner-passes AddOpens at b rs e h = clash (cc)
-  inner-passes Other at b rs e h = clash (cc)
-
   items-pass : (is : List Item) (at : ℕ) (rs : List (List ℕ)) → allInner is ≡ true → checkFrom s one at (recordsIn is ++ rs) ≡ checkFrom s one (at + length (bytesOf is)) rs
   unfolding allInner recordsIn bytesOf
   items-pass [] at rs e = let z : at + 0 ≡ at = omega arith in rw z
@@ -102,7 +69,7 @@ module _ (s : List ℕ) where
       let h : (isInner k && isBody k b) ≡ true = and-left (isInner k && isBody k b) (allInner is) e in
       let r : List ℕ = recordBytes k b in
       let w : at + length r + length (bytesOf is) ≡ at + length (r ++ bytesOf is) = rw length-append (omega arith) in
-      inner-passes k at b (recordsIn is ++ rs) (and-left (isInner k) (isBody k b) h) (and-right (isInner k) (isBody k b) h)
+      passes s k (and-left (isInner k) (isBody k b) h) at b (recordsIn is ++ rs) (and-right (isInner k) (isBody k b) h)
       ∙ items-pass is (at + length r) rs (and-right (isInner k && isBody k b) (allInner is) e)
       ∙ rw w
 

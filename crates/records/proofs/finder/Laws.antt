@@ -1,5 +1,5 @@
 -- Laws of the lookup by name, and what each turn of its loop shows.
-use Prim.Native.Nat.{ℕ, suc, _+_, _-_, _≤_, _<_}
+use Prim.Native.Nat.{ℕ, suc, _+_, _≤_, _<_}
 use mathlib.Core.Path.{_≡_, refl, sym, _∙_}
 use mathlib.Core.List.{List, [], _∷_, map}
 use mathlib.Core.Bool.{Bool, true, false, _||_}
@@ -7,12 +7,14 @@ use native.Mathlib.Omega.{arith}
 use native.Mathlib.Numerals.{add-one}
 use lib.ListN.{length, getD, take, drop, drop-of-length-le, length-take}
 use lib.Seq.{drop-cons, getD-take}
+use lib.Dec.{eqb}
 use Rattle.records.specs.Bytes.{sameBytes, u16At}
 use Rattle.records.specs.Name.{nameOf, memName}
 use Rattle.records.specs.Record.{sizeOf}
 use Rattle.records.specs.Descriptor.{moduleName}
 use Rattle.records.specs.Set.{bodyAt, nameAt}
-use Rattle.records.specs.Finder.{findName, pickFound}
+use Rattle.records.specs.Finder.{findName, pickFound, isAt}
+use Rattle.records.specs.declared.finder.Found.{Found}
 use Rattle.records.specs.declared.finder.Found.the-variants.{At, Nothing}
 use Rattle.records.proofs.Logic.{clash}
 
@@ -72,3 +74,15 @@ found-not (m ∷ l) n i e = go (sameBytes m n) refl (found-not l n (suc i)) e
     go : (b : Bool) → sameBytes m n ≡ b → (findName l n (suc i) ≡ Nothing → memName n l ≡ false) → pickFound b (At i) (findName l n (suc i)) ≡ Nothing → (b || memName n l) ≡ false
     go true eb ih h = clash (cc)
     go false eb ih h = ih h
+
+-- ---- a position
+
+pub at-found : (f : Found) (i j : ℕ) → f ≡ At j → eqb i j ≡ isAt f i
+unfolding isAt
+at-found f i j e = sym (rw e)
+
+pub at-nothing : (f : Found) (i : ℕ) → f ≡ Nothing → false ≡ isAt f i
+unfolding isAt
+at-nothing f i e = sym (rw e)
+
+pub ruleset at-laws = (at-found, at-nothing)

@@ -1,20 +1,21 @@
 -- Lookup in a set that the check takes: by the table it is lookup among its modules; what is found has the name, and each
--- module is found by its own name.
-use Prim.Native.Nat.{ℕ, zero, suc, _+_, _-_, _≤_, _<_}
+-- module that is not hidden is found by its own name.
+use Prim.Native.Nat.{ℕ, suc, _+_, _-_, _≤_, _<_}
 use mathlib.Core.Path.{_≡_, refl, sym, _∙_, ap}
 use mathlib.Core.List.{List, [], _∷_, map}
-use mathlib.Core.Bool.{Bool, true, false, _&&_, _||_, not}
+use mathlib.Core.Bool.{Bool, true, false}
 use native.Mathlib.Omega.{arith}
-use native.Mathlib.Nat.{add-zero}
 use lib.ListN.{length, getD, take, length-map}
+use borrow.Author.Tests.{eqb-true, eq-eqb}
 use Rattle.records.specs.Bytes.{sameBytes}
 use Rattle.records.specs.Name.{memName}
 use Rattle.records.specs.Descriptor.{Descriptor, descriptorOf}
-use Rattle.records.specs.Set.{nameAt, blocks, modules, distinct}
-use Rattle.records.specs.Finder.{findName, pickFound, findModule}
+use Rattle.records.specs.Set.{nameAt, blocks, modules}
+use Rattle.records.specs.Finder.{findName, pickFound, findModule, isAt, isFirst}
+use Rattle.records.specs.declared.finder.Found.{Found}
 use Rattle.records.specs.declared.finder.Found.the-variants.{At, Nothing}
 use Rattle.records.proofs.Logic.{clash}
-use Rattle.records.proofs.bytes.Laws.{same-eq, same-refl}
+use Rattle.records.proofs.bytes.Laws.{same-eq}
 use Rattle.records.proofs.finder.Laws.{found-not}
 use Rattle.records.proofs.set.Blocks.{GoodSet}
 
@@ -41,38 +42,15 @@ found-at (m ∷ l) n i j e = go (sameBytes m n) refl (found-at l n (suc i) j) e
         record { from = omega arith; within = omega arith; is = rw z (same-eq m n eb) }
     go false eb ih h = later (ih h)
 
--- a later name differs from the first, where none stands twice
-differs : (m : List ℕ) (l : List (List ℕ)) (k : ℕ) → memName m l ≡ false → k < length l → sameBytes m (getD l k []) ≡ false
-unfolding memName
-differs m [] k e h = absurd (omega arith)
-differs m (x ∷ l) zero e h = go (sameBytes x m) refl e
-  where
-    go : (b : Bool) → sameBytes x m ≡ b → (b || memName m l) ≡ false → sameBytes m x ≡ false
-    go true eb w = clash (cc)
-    go false eb w = turned (sameBytes m x) refl
-      where
-        turned : (c : Bool) → sameBytes m x ≡ c → sameBytes m x ≡ false
-        turned true ec = let q : m ≡ x = same-eq m x ec in let p : sameBytes x m ≡ true = rw q (same-refl x) in clash (cc)
-        turned false ec = ec
-differs m (x ∷ l) (suc k) e h = go (sameBytes x m) (differs m l k) e
-  where
-    go : (b : Bool) → (memName m l ≡ false → k < length l → sameBytes m (getD l k []) ≡ false) → (b || memName m l) ≡ false → sameBytes m (getD l k []) ≡ false
-    go true ih w = clash (cc)
-    go false ih w = ih w (omega (arith, h))
+-- a position that is found
+pub is-at : (f : Found) (i : ℕ) → isAt f i ≡ true → f ≡ At i
+unfolding isAt
+is-at (At j) i e = ap At (sym (eqb-true i j e))
+is-at Nothing i e = clash (cc)
 
--- each name is found at its own position, where none stands twice
-pub found-own : (l : List (List ℕ)) (i k : ℕ) → distinct l ≡ true → k < length l → findName l (getD l k []) i ≡ At (i + k)
-unfolding findName distinct
-found-own [] i k e h = absurd (omega arith)
-found-own (m ∷ l) i zero e h = rw (same-refl m, add-zero i)
-found-own (m ∷ l) i (suc k) e h = go (memName m l) refl (found-own l (suc i) k) e
-  where
-    go : (b : Bool) → memName m l ≡ b → (distinct l ≡ true → k < length l → findName l (getD l k []) (suc i) ≡ At (suc i + k)) → (not b && distinct l) ≡ true
-        → pickFound (sameBytes m (getD l k [])) (At i) (findName l (getD l k []) (suc i)) ≡ At (i + suc k)
-    go true eb ih w = clash (cc)
-    go false eb ih w =
-        let q : suc i + k ≡ i + suc k = omega arith in
-        rw (differs m l k eb (omega (arith, h)), ih w (omega (arith, h)), q)
+pub at-is : (f : Found) (i : ℕ) → f ≡ At i → isAt f i ≡ true
+unfolding isAt
+at-is f i e = rw (e, eq-eqb i i refl)
 
 -- ---- in a set that the check takes
 
@@ -94,10 +72,11 @@ module _ (s : List ℕ) (n : ℕ) (t : List ℕ) (g : GoodSet s n t) where
       let z : i - 0 ≡ i = omega arith in
       (omega (arith, f .within, counted), rw z at (f .is))
 
-  -- each module is found by its own name
-  pub find-by-position : (i : ℕ) → i < n → findModule s (getD (map (λ (m : Descriptor). m .name) (modules s)) i []) ≡ At i
-  unfolding findModule
-  find-by-position i l = let z : 0 + i ≡ i = omega arith in rw (found-own (map (λ (m : Descriptor). m .name) (modules s)) 0 i (g .once) (omega (arith, l, counted)), z)
+  -- each module that is not hidden is found by its own name
+  pub find-by-position : (i : ℕ) → isFirst (map (λ (m : Descriptor). m .name) (modules s)) (getD (map (λ (m : Descriptor). m .name) (modules s)) i []) i ≡ true
+      → findModule s (getD (map (λ (m : Descriptor). m .name) (modules s)) i []) ≡ At i
+  unfolding findModule isFirst
+  find-by-position i e = is-at (findModule s (getD (map (λ (m : Descriptor). m .name) (modules s)) i [])) i e
 
   -- a name that is not found is no module's
   pub find-nothing : (name : List ℕ) → findModule s name ≡ Nothing → memName name (map (λ (m : Descriptor). m .name) (modules s)) ≡ false

@@ -9,14 +9,14 @@ use native.Mathlib.Numerals.{add-one}
 use lib.ListN.{length, getD, take, drop, set, replicate, length-set, length-take, length-append, length-map, getD-replicate, drop-of-length-le, List·getD-append}
 use lib.Seq.{drop-cons, length-take-le, take-suc, getD-take, getD-append-seam, getD-set-same, getD-set-other}
 use lib.Dec.{eqb}
-use borrow.Author.Tests.{eqb-true, eqb-false, lt-ltb, le-ltb}
+use borrow.Author.Tests.{eq-eqb, eqb-true, eqb-false, lt-ltb, le-ltb}
 use Rattle.records.specs.Bytes.{sameBytes}
 use Rattle.records.specs.Set.{nameAt}
-use Rattle.records.specs.Finder.{findName, pickFound}
+use Rattle.records.specs.Finder.{findName, pickFound, isAt, isFirst}
 use Rattle.records.specs.Index.{wordAt, mixed, chunkAt, shortHash, sumTo, totalTo, longHash, hashIn, hashOf, numberOf, lastOf, Indexed}
 use Rattle.records.specs.declared.finder.Found.{Found}
 use Rattle.records.specs.declared.finder.Found.the-variants.{At, Nothing}
-use Rattle.records.proofs.bytes.Laws.{same-eq}
+use Rattle.records.proofs.bytes.Laws.{same-eq, same-refl}
 
 -- ---- the number of a name
 
@@ -337,6 +337,46 @@ module _ (s t : List ℕ) (count : ℕ) (index name : List ℕ) (found : Found) 
   seek-done l = h .sought .first ∙ rw (le-antisymm l zero-le)
 
 pub ruleset seek-laws = (seek-start, seek-place, seek-chain, seek-less, seek-more, seek-done)
+
+-- ---- whether a module is the first of its name
+
+module _ (s t index : List ℕ) (count i : ℕ) (few : count ≤ 256) (it : count ≤ length t) (x : Indexed (map (nameAt s) (take count t)) index) (l : i < count) where
+  pub first-in-table : i < length t
+  first-in-table = omega (arith, it)
+
+  pub first-in-index : 1024 + i < length index
+  first-in-index = omega (arith, few, x .long)
+
+  -- none before it has its number
+  pub first-alone : getD index (1024 + i) 0 ≡ 0 → true ≡ isFirst (map (nameAt s) (take count t)) (nameAt s (getD t i 0)) i
+  unfolding isFirst isAt
+  first-alone e = sym (ap (λ (f : Found). isAt f i) found ∙ eq-eqb i i refl)
+    where
+      names : List (List ℕ)
+      names = map (nameAt s) (take count t)
+
+      within : i < length names
+      within = omega (arith, names-long s t count it)
+
+      own : getD names i [] ≡ nameAt s (getD t i 0)
+      own = name-of s (take count t) i (rw (length-take-le count t it) l) ∙ ap (nameAt s) (getD-take count t i 0 l)
+
+      none : lastOf names (numberOf (nameAt s (getD t i 0))) i ≡ 0
+      none = ap (λ (y : List ℕ). lastOf names (numberOf y) i) (sym own) ∙ sym (x .before i within) ∙ e
+
+      here : findName (drop i names) (nameAt s (getD t i 0)) i ≡ At i
+      here = unfold findName in rw (drop-cons names i [] within, own, same-refl (nameAt s (getD t i 0)))
+
+      found : findName names (nameAt s (getD t i 0)) 0 ≡ At i
+      found = ap (λ (k : ℕ). findName (drop k names) (nameAt s (getD t i 0)) k) (sym none) ∙ last-skips names (nameAt s (getD t i 0)) i (omega (arith, within)) ∙ here
+
+  -- or its name finds it
+  pub first-found : (m : List ℕ) (f : Found) (r : Bool) → m ≡ nameAt s (getD t i 0) → f ≡ findName (map (nameAt s) (take count t)) m 0 → r ≡ isAt f i
+      → r ≡ isFirst (map (nameAt s) (take count t)) (nameAt s (getD t i 0)) i
+  unfolding isFirst
+  first-found m f r em ef er = er ∙ rw (ef, em)
+
+pub ruleset first-laws = (first-in-table, first-in-index, first-alone, first-found)
 
 -- ---- all names
 

@@ -9,9 +9,9 @@ use lib.Dec.{ltb}
 use borrow.Author.Tests.{le-ltb, eq-eqb}
 use Rattle.records.specs.Bytes.{sameBytes}
 use Rattle.records.specs.Name.{javaBase, allUnnamed, printable, nameOf, afterName, isField, isName, isEmpty, isVersion, isNameVersion, memName}
-use Rattle.records.specs.Record.{recordMore, records, markFor, setKind, isRequires, isBody}
+use Rattle.records.specs.Record.{markOf, recordMore, records, markFor, setKind, isRequires, isBody}
 use Rattle.records.specs.Descriptor.{Descriptor, moduleName}
-use Rattle.records.specs.Set.{Passed, nameAt, isPlaced, admitAt, passAt, judgeAt, tableOf, accepted, goOn, checkFrom, checkSet, modules}
+use Rattle.records.specs.Set.{Passed, noneYet, nameAt, isPlaced, admitAt, passAt, judgeAt, tableOf, accepted, goOn, checkFrom, checkSet, modules}
 use Rattle.records.specs.Automatic.{derivedName, isModuleName, validated, derived, pickNamed, withoutJar, fileName}
 use Rattle.records.specs.Request.{checkRecords}
 use Rattle.records.specs.Order.{ordered, packagesOf, allNames}
@@ -25,7 +25,6 @@ use Rattle.records.specs.declared.record.Kind.{Kind}
 use Rattle.records.specs.declared.record.Kind.the-variants.{Module, Requires, Exports, Opens, Package}
 use Rattle.records.specs.declared.request.RecordsAnswer.{RecordsAnswer}
 use Rattle.records.specs.declared.request.RecordsAnswer.the-variants as Records
-use Rattle.records.specs.declared.set.Verdict.the-variants.{Pass}
 use Rattle.records.specs.declared.jar.Written.the-variants.{Bytes, Refused}
 use Rattle.records.proofs.Logic.{clash, and-split}
 use Rattle.records.proofs.automatic.Parts.{module-name-short, module-name-some, module-name-printable, module-name-not-unnamed}
@@ -33,7 +32,7 @@ use Rattle.records.proofs.output.Made.{made-mark, made-body, made-whole
 use Rattle.records.proofs.output.WellFormed.{name-read, module-made, entry-made, package-made}
 use Rattle.records.proofs.record.Laws.{records-cons}
 use Rattle.records.proofs.set.Blocks.{good-set}
-use Rattle.records.proofs.set.Table.{name-here}
+use Rattle.records.proofs.set.Steps.{isInner, inner-kind, belongs, step-goes, name-here}
 use Rattle.records.proofs.jar.PackageNames.{isPackageName, name-some, name-printable, names-short, good-packages}
 
 -- ---- a set of one module
@@ -45,20 +44,22 @@ pub record OneModule (s name : List ℕ) : Type 0 where
 
 -- one module, which starts at 0 and has no MC
 abbrev pub one : Passed
-one = record { starts = 0 ∷ []; main = false }
+one = record { starts = 0 ∷ []; here = 0 ∷ []; places = 1; main = false }
 
 -- a record that passes behind the MO
-module _ (s : List ℕ) (k : Kind) (known : setKind (markFor k) ≡ k) (placed : isPlaced 1 false k ≡ true) (goes : (at : ℕ) (b : List ℕ) → passAt s (0 ∷ []) at k b ≡ Pass) where
+module _ (s : List ℕ) (k : Kind) (i : isInner k ≡ true) where
   pub passes : (at : ℕ) (b : List ℕ) (rs : List (List ℕ)) → isBody k b ≡ true → checkFrom s one at (recordBytes k b ∷ rs) ≡ checkFrom s one (at + length (recordBytes k b)) rs
-  unfolding checkFrom judgeAt goOn
-  passes at b rs e = rw (made-mark k b, made-body k b, known, placed, e, goes at b)
+  unfolding checkFrom
+  passes at b rs e =
+      let q : setKind (markOf (recordBytes k b)) ≡ k = ap setKind (made-mark k b) ∙ inner-kind k i in
+      step-goes s one at (recordBytes k b) (λ p. checkFrom s p (at + length (recordBytes k b)) rs) (belongs (record { kind = rw q i; good = rw (q, made-body k b) e; behind = omega arith }))
 
 -- an MO with this body, and `rest` behind it, which are the records rs
 module _ (header rest : List ℕ) (rs : List (List ℕ)) (made : isBody Module header ≡ true) (short : length header < 65536) (unlike : sameBytes (moduleName header) allUnnamed ≡ false) where
   abbrev set : List ℕ
   set = recordBytes Module header ++ rest
 
-  module-starts : checkFrom set (record { starts = []; main = false }) 0 (recordBytes Module header ∷ rs) ≡ checkFrom set one (length (recordBytes Module header)) rs
+  module-starts : checkFrom set noneYet 0 (recordBytes Module header ∷ rs) ≡ checkFrom set one (length (recordBytes Module header)) rs
   unfolding checkFrom judgeAt goOn isPlaced passAt admitAt memName setKind markFor
   module-starts =
       let z : 0 + length (recordBytes Module header) ≡ length (recordBytes Module header) = omega arith in
@@ -70,7 +71,7 @@ module _ (header rest : List ℕ) (rs : List (List ℕ)) (made : isBody Module h
         let cut : take (suc (recordMore set)) set ∷ records (drop (suc (recordMore set)) set) ≡ recordBytes Module header ∷ rs =
         sym (records-cons set (made-whole Module header rest short)) ∙ shown in
         let first : take (suc (recordMore set)) set ≡ recordBytes Module header = cc in
-        name-here set set 0 refl ∙ rw (first, made-body Module header)
+        name-here set set 0 (made-whole Module header rest short) refl ∙ rw (first, made-body Module header)
 
     -- where the check takes what stands behind the MO
     pub one-module : checkFrom set one (length (recordBytes Module header)) rs ≡ accepted (0 ∷ []) (length set) → length set ≤ 65535 → OneModule set (moduleName header)
@@ -81,7 +82,7 @@ module _ (header rest : List ℕ) (rs : List (List ℕ)) (made : isBody Module h
 
 -- ---- the records of an automatic module
 
-module _ (s : List ℕ) (k : Kind) (known : setKind (markFor k) ≡ k) (placed : isPlaced 1 false k ≡ true) (goes : (at : ℕ) (b : List ℕ) → passAt s (0 ∷ []) at k b ≡ Pass) (end : List ℕ) (made : (n : List ℕ) → isPackageName n ≡ true → isBody k (nameBytes n ++ end) ≡ true) where
+module _ (s : List ℕ) (k : Kind) (i : isInner k ≡ true) (end : List ℕ) (made : (n : List ℕ) → isPackageName n ≡ true → isBody k (nameBytes n ++ end) ≡ true) where
   group-passes : (at : ℕ) (ns rs : List (List ℕ)) → allNames isPackageName ns ≡ true → checkFrom s one at (groupRecords k end ns ++ rs) ≡ checkFrom s one (at + length (group k end ns)) rs
   unfolding groupRecords group allNames
   group-passes at [] rs e = let z : at + 0 ≡ at = omega arith in rw z
@@ -89,7 +90,7 @@ module _ (s : List ℕ) (k : Kind) (known : setKind (markFor k) ≡ k) (placed :
       let p : (isPackageName n ≡ true) × (allNames isPackageName ns ≡ true) = and-split (isPackageName n) (allNames isPackageName ns) e in
       let r : List ℕ = recordBytes k (nameBytes n ++ end) in
       let w : at + length r + length (group k end ns) ≡ at + length (r ++ group k end ns) = rw length-append (omega arith) in
-      passes s k known placed goes at (nameBytes n ++ end) (groupRecords k end ns ++ rs) (made n (p .0)) ∙ group-passes (at + length r) ns rs (p .1) ∙ rw w
+      passes s k i at (nameBytes n ++ end) (groupRecords k end ns ++ rs) (made n (p .0)) ∙ group-passes (at + length r) ns rs (p .1) ∙ rw w
 
 -- with these packages
 module _ (n : List ℕ) (ps : List (List ℕ)) (v : isModuleName n ≡ true) (g : allNames isPackageName ps ≡ true) where
@@ -108,20 +109,20 @@ module _ (n : List ℕ) (ps : List (List ℕ)) (v : isModuleName n ≡ true) (g 
   exported = groupRecords Exports noTargets ps ++ opened
 
   base-passes : (at : ℕ) (rs : List (List ℕ)) → checkFrom s one at (baseRecord ∷ rs) ≡ checkFrom s one (at + length baseRecord) rs
-  unfolding baseRecord isBody isRequires isNameVersion isVersion isName isField isEmpty afterName nameOf printable nameBytes sameBytes isPlaced passAt setKind markFor
-  base-passes at rs = passes s Requires refl refl (λ a b. refl) at (0x80 ∷ 0 ∷ (nameBytes javaBase ++ (0 ∷ []))) rs refl
+  unfolding baseRecord isBody isRequires isNameVersion isVersion isName isField isEmpty afterName nameOf printable nameBytes sameBytes isInner
+  base-passes at rs = passes s Requires refl at (0x80 ∷ 0 ∷ (nameBytes javaBase ++ (0 ∷ []))) rs refl
 
   exports-pass : (at : ℕ) (rs : List (List ℕ)) → checkFrom s one at (groupRecords Exports noTargets ps ++ rs) ≡ checkFrom s one (at + length (group Exports noTargets ps)) rs
-  unfolding isBody isPlaced passAt setKind markFor
-  exports-pass at rs = group-passes s Exports refl refl (λ a b. refl) noTargets (λ p h. entry-made p (name-printable p h) (name-some p h)) at ps rs g
+  unfolding isBody isInner
+  exports-pass at rs = group-passes s Exports refl noTargets (λ p h. entry-made p (name-printable p h) (name-some p h)) at ps rs g
 
   opens-pass : (at : ℕ) (rs : List (List ℕ)) → checkFrom s one at (groupRecords Opens noTargets ps ++ rs) ≡ checkFrom s one (at + length (group Opens noTargets ps)) rs
-  unfolding isBody isPlaced passAt setKind markFor
-  opens-pass at rs = group-passes s Opens refl refl (λ a b. refl) noTargets (λ p h. entry-made p (name-printable p h) (name-some p h)) at ps rs g
+  unfolding isBody isInner
+  opens-pass at rs = group-passes s Opens refl noTargets (λ p h. entry-made p (name-printable p h) (name-some p h)) at ps rs g
 
   packages-pass : (at : ℕ) (rs : List (List ℕ)) → checkFrom s one at (groupRecords Package [] ps ++ rs) ≡ checkFrom s one (at + length (group Package [] ps)) rs
-  unfolding isBody isPlaced passAt setKind markFor
-  packages-pass at rs = group-passes s Package refl refl (λ a b. refl) [] (λ p h. package-made p (name-printable p h) (name-some p h)) at ps rs g
+  unfolding isBody isInner
+  packages-pass at rs = group-passes s Package refl [] (λ p h. package-made p (name-printable p h) (name-some p h)) at ps rs g
 
   used : length (moduleRecord n) + length baseRecord + length (group Exports noTargets ps) + length (group Opens noTargets ps) + length (group Package [] ps) ≡ length s
   unfolding automaticRecords

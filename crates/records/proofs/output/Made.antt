@@ -13,7 +13,7 @@ use Rattle.records.specs.Output.{twoBytes, recordBytes, nameBytes, modul
 use Rattle.records.specs.Order.{allShort}
 use Rattle.records.specs.Name.{javaBase}
 use Rattle.records.specs.declared.record.Kind.{Kind}
-use Rattle.records.specs.declared.record.Kind.the-variants.{Module, Requires, Exports, Opens, Uses, Provides, Package, MainClass, Root, LimitModules, AddReads, AddExports, AddOpens, Other}
+use Rattle.records.specs.declared.record.Kind.the-variants.{Module, Requires, Exports, Opens, Uses, Provides, Package, MainClass, Place, Root, LimitModules, AddReads, AddExports, AddOpens, Other}
 use Rattle.records.proofs.record.Laws.{records-cons, records-end}
 use Rattle.records.proofs.output.Groups.{short-first, short-rest}
 
@@ -34,6 +34,7 @@ mark-fits Uses = omega arith
 mark-fits Provides = omega arith
 mark-fits Package = omega arith
 mark-fits MainClass = omega arith
+mark-fits Place = omega arith
 mark-fits Root = omega arith
 mark-fits LimitModules = omega arith
 mark-fits AddReads = omega arith

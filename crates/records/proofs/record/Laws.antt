@@ -1,12 +1,12 @@
 -- Laws of the records of a byte string, and what each step of a cursor shows.
 use Prim.Native.Nat.{ℕ, zero, suc, _+_, _-_, _≤_, _<_}
 use mathlib.Core.Path.{_≡_, refl, sym, _∙_, ap}
-use mathlib.Core.List.{List, [], _∷_, _++_}
+use mathlib.Core.List.{List, [], _∷_, _++_, flatten}
 use mathlib.Core.Bool.{Bool, true, false, cond}
 use native.Mathlib.Omega.{arith}
 use native.Mathlib.Nat.{add-zero, zero-add, suc-add}
 use lib.ListN.{length, take, drop, length-drop, length-append, drop-of-length-le, List·getD-append}
-use lib.Seq.{getD-take, drop-drop, take-nil, length-take-le, take-append-le, drop-append-le, drop-at}
+use lib.Seq.{getD-take, drop-drop, take-nil, length-take-le, take-append-le, drop-append-le, take-at, drop-at}
 use lib.Dec.{ltb}
 use borrow.Author.Tests.{lt-leb, le-leb, lt-ltb, le-ltb, leb-true, ltb-true, ltb-false}
 use Rattle.records.specs.Bytes.{u16At}
@@ -218,24 +218,47 @@ step-less s at st es mark start len next e =
 
 -- ---- two strings in a row, where the first is used up exactly
 
--- records put together
-unfoldable pub joined : List (List ℕ) → List ℕ
-joined [] = []
-joined (r ∷ rs) = r ++ joined rs
-
 more-append : (a b : List ℕ) → 4 ≤ length a → recordMore (a ++ b) ≡ recordMore a
 unfolding recordMore sizeOf u16At
 more-append a b l = rw (List·getD-append a b 0 2 (omega arith), List·getD-append a b 0 (2 + 1) (omega arith))
 
+-- r is one record, with its mark and length
+pub record IsRecord (r : List ℕ) : Type 0 where
+  pub long : suc (recordMore r) ≡ length r
+
+size-take : (t : List ℕ) (n : ℕ) → 4 ≤ n → sizeOf (take n t) ≡ sizeOf t
+unfolding sizeOf u16At
+size-take t n l = rw (getD-take n t 2 0 (omega arith), getD-take n t (2 + 1) 0 (omega arith))
+
+-- the record in front of t, where it is whole
+pub front-record : (t : List ℕ) → whole t ≡ true → IsRecord (take (suc (recordMore t)) t)
+unfolding recordMore
+front-record t e = record { long = ap (λ (n : ℕ). suc (3 + n)) (size-take t (suc (3 + sizeOf t)) (omega arith)) ∙ sym (front-of t e .long) }
+
+module _ (r x : List ℕ) (h : IsRecord r) where
+  first-more : recordMore (r ++ x) ≡ recordMore r
+  unfolding recordMore
+  first-more = more-append r x (omega (arith, h .long))
+
+  pub first-whole : whole (r ++ x) ≡ true
+  unfolding whole
+  first-whole = rw first-more (le-leb (suc (recordMore r)) (length (r ++ x)) (rw length-append (omega (arith, h .long))))
+
+  pub first-front : take (suc (recordMore (r ++ x))) (r ++ x) ≡ r
+  first-front = rw first-more (take-at r x (suc (recordMore r)) (sym (h .long)))
+
+  pub record-first : records (r ++ x) ≡ r ∷ records x
+  record-first = records-cons (r ++ x) first-whole ∙ rw (first-front, first-more, drop-at r x (suc (recordMore r)) (sym (h .long)))
+
 pub record Splits (a : List ℕ) : Type 0 where
-  pub in-two : (b : List ℕ) → joined (records a) ≡ a → records (a ++ b) ≡ records a ++ records b
+  pub in-two : (b : List ℕ) → flatten (records a) ≡ a → records (a ++ b) ≡ records a ++ records b
 
 splits-stop : (a : List ℕ) → whole a ≡ false → Splits a
-unfolding joined
+unfolding flatten
 splits-stop a e = record { in-two = λ b j. let z : [] ≡ a = rw (records-none a e) at j in rw (records-none a e, ← z) }
 
 splits-more : (a : List ℕ) → whole a ≡ true → Splits (drop (suc (recordMore a)) a) → Splits a
-unfolding joined whole recordMore
+unfolding flatten whole recordMore
 splits-more a e ih = record { in-two = two }
   where
     n : ℕ
@@ -244,11 +267,11 @@ splits-more a e ih = record { in-two = two }
     l : n ≤ length a
     l = leb-true n (length a) e
 
-    two : (b : List ℕ) → joined (records a) ≡ a → records (a ++ b) ≡ records a ++ records b
+    two : (b : List ℕ) → flatten (records a) ≡ a → records (a ++ b) ≡ records a ++ records b
     two b j =
         let m : recordMore (a ++ b) ≡ recordMore a = more-append a b (omega (arith, l)) in
         let w : whole (a ++ b) ≡ true = rw m (le-leb n (length (a ++ b)) (rw length-append (omega (arith, l)))) in
-        let r : List ℕ = joined (records (drop n a)) in
+        let r : List ℕ = flatten (records (drop n a)) in
         let j′ : take n a ++ r ≡ a = rw (records-cons a e) at j in
         let k : r ≡ drop n a = sym (drop-at (take n a) r n (length-take-le n a l)) ∙ ap (drop n) j′ in
         rw (records-cons (a ++ b) w, m, take-append-le n a b l, drop-append-le n a b l, records-cons a e, ih .in-two b k)

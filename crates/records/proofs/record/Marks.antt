@@ -1,18 +1,19 @@
 -- Kinds and their marks, and what each return of the body checks shows.
-use Prim.Native.Nat.{ℕ, _-_, _≤_, _<_}
-use mathlib.Core.Path.{_≡_, sym}
+use Prim.Native.Nat.{ℕ, _≤_, _<_}
+use mathlib.Core.Path.{_≡_, refl, sym, ap, subst}
 use mathlib.Core.List.{List}
 use mathlib.Core.Bool.{Bool, true, false}
 use native.Mathlib.Omega.{arith}
 use lib.ListN.{getD, drop}
-use borrow.Author.Tests.{eq-eqb, ne-eqb, le-leb, lt-leb}
+use lib.Dec.{eqb}
+use borrow.Author.Tests.{eqb-true, eq-eqb, ne-eqb, le-leb, lt-leb}
 use Rattle.records.specs.Bytes.{sameBytes}
 use Rattle.records.specs.Name.{allUnnamed, nameOf, isNameVersion}
-use Rattle.records.specs.Record.{markFor, setKind, requestKind, packageKind, kindIn, isModule, isRequires, isBody}
+use Rattle.records.specs.Record.{markOf, markFor, pickKind, isOf, setKind, requestKind, packageKind, kindIn, isModule, isRequires, isBody}
 use Rattle.records.specs.declared.error.Input.{Input}
 use Rattle.records.specs.declared.error.Input.the-variants.{Packages}
 use Rattle.records.specs.declared.record.Kind.{Kind}
-use Rattle.records.specs.declared.record.Kind.the-variants.{Package, Other}
+use Rattle.records.specs.declared.record.Kind.the-variants.{Module, Requires, Exports, Opens, Uses, Provides, Package, MainClass, Place, Other}
 
 -- ---- kinds and marks
 
@@ -23,10 +24,37 @@ mark-told k k′ n e en = cc
 pub kind-at : (f : ℕ → Kind) (m n : ℕ) (k : Kind) → m ≡ n → k ≡ f n → k ≡ f m
 kind-at f m n k e ek = cc
 
-pub set-other : (m : ℕ) → (m ≡ 0x4D4F → ⊥) → (m ≡ 0x5251 → ⊥) → (m ≡ 0x4558 → ⊥) → (m ≡ 0x4F50 → ⊥) → (m ≡ 0x5553 → ⊥) → (m ≡ 0x5056 → ⊥) → (m ≡ 0x504B → ⊥) → (m ≡ 0x4D43 → ⊥) → Other ≡ setKind m
+pub set-other : (m : ℕ) → (m ≡ 0x4D4F → ⊥) → (m ≡ 0x5251 → ⊥) → (m ≡ 0x4558 → ⊥) → (m ≡ 0x4F50 → ⊥) → (m ≡ 0x5553 → ⊥) → (m ≡ 0x5056 → ⊥) → (m ≡ 0x504B → ⊥) → (m ≡ 0x4D43 → ⊥) → (m ≡ 0x504C → ⊥) → Other ≡ setKind m
 unfolding setKind
-set-other m a b c d e f g h =
-    rw (ne-eqb m 0x4D4F a, ne-eqb m 0x5251 b, ne-eqb m 0x4558 c, ne-eqb m 0x4F50 d, ne-eqb m 0x5553 e, ne-eqb m 0x5056 f, ne-eqb m 0x504B g, ne-eqb m 0x4D43 h)
+set-other m a b c d e f g h i =
+    rw (ne-eqb m 0x4D4F a, ne-eqb m 0x5251 b, ne-eqb m 0x4558 c, ne-eqb m 0x4F50 d, ne-eqb m 0x5553 e, ne-eqb m 0x5056 f, ne-eqb m 0x504B g, ne-eqb m 0x4D43 h, ne-eqb m 0x504C i)
+
+-- the kind of a set's record tells its mark
+unfoldable Told : ℕ → Kind → Type 0
+Told m k = (k ≡ Other → ⊥) → m ≡ markFor k
+
+told : (m : ℕ) (b : Bool) (k l : Kind) → (b ≡ true → m ≡ markFor k) → Told m l → Told m (pickKind b k l)
+unfolding Told
+told m true k l f g = λ n. f refl
+told m false k l f g = g
+
+set-told : (m : ℕ) → Told m (setKind m)
+unfolding Told setKind markFor
+set-told m =
+    told m (eqb m 0x4D4F) Module _ (eqb-true m 0x4D4F)
+    (told m (eqb m 0x5251) Requires _ (eqb-true m 0x5251)
+    (told m (eqb m 0x4558) Exports _ (eqb-true m 0x4558)
+    (told m (eqb m 0x4F50) Opens _ (eqb-true m 0x4F50)
+    (told m (eqb m 0x5553) Uses _ (eqb-true m 0x5553)
+    (told m (eqb m 0x5056) Provides _ (eqb-true m 0x5056)
+    (told m (eqb m 0x504B) Package _ (eqb-true m 0x504B)
+    (told m (eqb m 0x4D43) MainClass _ (eqb-true m 0x4D43)
+    (told m (eqb m 0x504C) Place Other (eqb-true m 0x504C) (λ n. absurd (n refl))))))))))
+
+-- so it tells of what other kind the record is
+pub of-kind : (r : List ℕ) (k j : Kind) → (k ≡ Other → ⊥) → setKind (markOf r) ≡ k → isOf j r ≡ eqb (markFor k) (markFor j)
+unfolding Told isOf
+of-kind r k j n e = ap (λ (m : ℕ). eqb m (markFor j)) (subst (λ (l : Kind). Told (markOf r) l) e (set-told (markOf r)) n)
 
 pub request-other : (m : ℕ) → (m ≡ 0x5254 → ⊥) → (m ≡ 0x4C4D → ⊥) → (m ≡ 0x4152 → ⊥) → (m ≡ 0x4145 → ⊥) → (m ≡ 0x414F → ⊥) → Other ≡ requestKind m
 unfolding requestKind

@@ -28,7 +28,7 @@ use Rattle.records.specs.declared.record.Step.the-variants.{Record, Bad,
 use Rattle.records.specs.declared.record.Next.{Next}
 use Rattle.records.specs.declared.record.Next.the-variants.{Body, Nothing}
 use Rattle.records.specs.declared.record.Kind.{Kind}
-use Rattle.records.specs.declared.record.Kind.the-variants.{Module, Requires, Exports, Opens, Uses, Provides, Package, MainClass, Root, LimitModules, AddReads, AddExports, AddOpens, Other}
+use Rattle.records.specs.declared.record.Kind.the-variants.{Module, Requires, Exports, Opens, Uses, Provides, Package, MainClass, Place, Root, LimitModules, AddReads, AddExports, AddOpens, Other}
 use Rattle.records.specs.declared.request.Row.{Row}
 use Rattle.records.specs.declared.request.Row.the-variants as Row
 use Rattle.records.specs.declared.request.RecordsAnswer.{RecordsAnswer}
@@ -43,7 +43,7 @@ use Rattle.records.proofs.record.Search.{firstBody, isFound, found-yes,
 
 -- all kinds but LM
 abbrev pub others : List ℕ
-others = 0 ∷ 1 ∷ 2 ∷ 3 ∷ 4 ∷ 5 ∷ 6 ∷ 7 ∷ 8 ∷ 10 ∷ 11 ∷ 12 ∷ 13 ∷ []
+others = 0 ∷ 1 ∷ 2 ∷ 3 ∷ 4 ∷ 5 ∷ 6 ∷ 7 ∷ 8 ∷ 9 ∷ 11 ∷ 12 ∷ 13 ∷ 14 ∷ []
 
 limit-no : (k : Kind) → OneOf others (tagOf the-type k) → isLimit k ≡ false
 unfolding isLimit
@@ -55,8 +55,9 @@ limit-no Uses h = refl
 limit-no Provides h = refl
 limit-no Package h = refl
 limit-no MainClass h = refl
+limit-no Place h = refl
 limit-no Root h = refl
-limit-no LimitModules h = absurd (miss others 9 tt h)
+limit-no LimitModules h = absurd (miss others 10 tt h)
 limit-no AddReads h = refl
 limit-no AddExports h = refl
 limit-no AddOpens h = refl

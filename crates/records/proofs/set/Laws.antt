@@ -5,8 +5,8 @@ use mathlib.Core.List.{List, [], _∷_, _++_, map}
 use mathlib.Core.Bool.{Bool, true, false, _&&_, _||_}
 use native.Mathlib.Omega.{arith}
 use native.Mathlib.Numerals.{add-one}
-use lib.ListN.{length, getD, take, drop, set, replicate, length-set, List·getD-eq-default}
-use lib.Seq.{length-take-le, take-suc-set, take-set-le, set-at, append-snoc}
+use lib.ListN.{length, getD, take, drop, set, replicate, length-set, length-drop, List·getD-eq-default}
+use lib.Seq.{length-take-le, take-suc-set, take-set-le, drop-set-add, set-at, append-snoc}
 use lib.Dec.{ltb, leb}
 use borrow.Author.Tests.{eq-eqb, ne-eqb, lt-ltb, le-ltb, le-leb, lt-leb, leb-false}
 use types.Run.{OneOf, miss}
@@ -17,22 +17,24 @@ use Rattle.records.specs.Record.{records, stepAt, setKind, isBody}
 use Rattle.records.specs.Descriptor.{moduleName}
 use Rattle.records.specs.Finder.{findName}
 use Rattle.records.specs.Index.{Indexed}
-use Rattle.records.specs.Set.{nameAt, isPlaced, admitAt, passAt, judgeAt, pickVerdict, tableOf, refused, accepted, goOn, checkFrom, checkSet, blockAt}
+use Rattle.records.specs.Set.{Passed, hereOf, passedOf, nameAt, isPlaced, admitAt, enterAt, placesAt, passAt, judgeAt, pickVerdict, tableOf, refused, accepted, goOn, checkFrom, checkSet, blockAt}
 use Rattle.records.specs.declared.record.Cursor.{Cursor}
 use Rattle.records.specs.declared.record.Step.{Step}
 use Rattle.records.specs.declared.record.Step.the-variants.{Record, Bad, End}
 use Rattle.records.specs.declared.record.Kind.{Kind}
-use Rattle.records.specs.declared.record.Kind.the-variants.{Module, Requires, Exports, Opens, Uses, Provides, Package, MainClass, Root, LimitModules, AddReads, AddExports, AddOpens, Other}
+use Rattle.records.specs.declared.record.Kind.the-variants.{Module, Requires, Exports, Opens, Uses, Provides, Package, MainClass, Place, Root, LimitModules, AddReads, AddExports, AddOpens, Other}
 use Rattle.records.specs.declared.finder.Found.{Found}
 use Rattle.records.specs.declared.finder.Found.the-variants.{At, Nothing}
 use Rattle.records.specs.declared.error.Input.the-variants.{Set}
 use Rattle.records.specs.declared.error.ModuleError.{ModuleError}
 use Rattle.records.specs.declared.error.ModuleError.the-variants.{Malformed, TooLarge, Repeated}
 use Rattle.records.specs.declared.set.Verdict.{Verdict}
-use Rattle.records.specs.declared.set.Verdict.the-variants.{Stop, Start, Main, Pass}
+use Rattle.records.specs.declared.set.Verdict.the-variants.{Stop, Start, Main, Enter, Pass}
 use Rattle.records.specs.declared.set.SetAnswer.the-variants.{Modules, Refused}
 use Rattle.records.specs.declared.set.Checked.{Checked}
+use Rattle.records.specs.declared.set.Seen.{Seen}
 use Rattle.records.proofs.Logic.{clash}
+use Rattle.records.proofs.bytes.Laws.{tail-none, tail-some}
 use Rattle.records.proofs.record.Kind.{the-type}
 use Rattle.records.proofs.record.Laws.{Stepped, stepped, stepped-bad, stepped-end, stepped-in, records-next, front-mark, front-body, front-length, records-none, records-end}
 use Rattle.records.proofs.finder.Laws.{found-in, found-not}
@@ -61,88 +63,145 @@ placed-other count main Uses h = refl
 placed-other count main Provides h = refl
 placed-other count main Package h = refl
 placed-other count main MainClass h = absurd (miss (1 ∷ 2 ∷ 3 ∷ 4 ∷ 5 ∷ 6 ∷ []) 7 tt h)
-placed-other count main Root h = absurd (miss (1 ∷ 2 ∷ 3 ∷ 4 ∷ 5 ∷ 6 ∷ []) 8 tt h)
-placed-other count main LimitModules h = absurd (miss (1 ∷ 2 ∷ 3 ∷ 4 ∷ 5 ∷ 6 ∷ []) 9 tt h)
-placed-other count main AddReads h = absurd (miss (1 ∷ 2 ∷ 3 ∷ 4 ∷ 5 ∷ 6 ∷ []) 10 tt h)
-placed-other count main AddExports h = absurd (miss (1 ∷ 2 ∷ 3 ∷ 4 ∷ 5 ∷ 6 ∷ []) 11 tt h)
-placed-other count main AddOpens h = absurd (miss (1 ∷ 2 ∷ 3 ∷ 4 ∷ 5 ∷ 6 ∷ []) 12 tt h)
-placed-other count main Other h = absurd (miss (1 ∷ 2 ∷ 3 ∷ 4 ∷ 5 ∷ 6 ∷ []) 13 tt h)
+placed-other count main Place h = absurd (miss (1 ∷ 2 ∷ 3 ∷ 4 ∷ 5 ∷ 6 ∷ []) 8 tt h)
+placed-other count main Root h = absurd (miss (1 ∷ 2 ∷ 3 ∷ 4 ∷ 5 ∷ 6 ∷ []) 9 tt h)
+placed-other count main LimitModules h = absurd (miss (1 ∷ 2 ∷ 3 ∷ 4 ∷ 5 ∷ 6 ∷ []) 10 tt h)
+placed-other count main AddReads h = absurd (miss (1 ∷ 2 ∷ 3 ∷ 4 ∷ 5 ∷ 6 ∷ []) 11 tt h)
+placed-other count main AddExports h = absurd (miss (1 ∷ 2 ∷ 3 ∷ 4 ∷ 5 ∷ 6 ∷ []) 12 tt h)
+placed-other count main AddOpens h = absurd (miss (1 ∷ 2 ∷ 3 ∷ 4 ∷ 5 ∷ 6 ∷ []) 13 tt h)
+placed-other count main Other h = absurd (miss (1 ∷ 2 ∷ 3 ∷ 4 ∷ 5 ∷ 6 ∷ []) 14 tt h)
 
 pub ruleset placed-laws = (placed-told, placed-twice, placed-main, placed-other)
 
-module _ (s t : List ℕ) (count at : ℕ) (b : List ℕ) (few : count ≤ length t) where
-  counted : length (take count t) ≡ count
-  counted = length-take-le count t few
+pub later-none : (t : List ℕ) (n : ℕ) → length t < n → [] ≡ drop n t
+later-none t n h = tail-none t n h
 
-  pub admit-full : 256 ≤ count → Stop (TooLarge at) ≡ admitAt s (take count t) at b
+pub later-some : (t : List ℕ) (n : ℕ) → take (length t - n) (drop n t) ≡ drop n t
+later-some t n = tail-some t n
+
+pub ruleset later-laws = (later-none, later-some)
+
+-- the modules of the present place, by the table
+module _ (t : List ℕ) (n : Seen) (parted : n .first ≤ n .count) (few : n .count ≤ length t) where
+  here-in : n .count - n .first ≤ length (drop (n .first) t)
+  here-in = rw length-drop (omega arith)
+
+  here-long : length (hereOf t n) ≡ n .count - n .first
+  here-long = length-take-le (n .count - n .first) (drop (n .first) t) here-in
+
+-- one module more of the present place in the index
+module _ (s t index : List ℕ) (n : Seen) (h : List ℕ) (eh : h ≡ drop (n .first) t) where
+  pub here-room : n .first ≤ n .count → n .count < length t → n .count - n .first < length h
+  here-room p l = rw (eh, length-drop) (omega arith)
+
+  pub here-by : Indexed (map (nameAt s) (hereOf t n)) index → Indexed (map (nameAt s) (take (n .count - n .first) h)) index
+  here-by x = rw eh x
+
+  pub here-added : (index′ : List ℕ) → Indexed (map (nameAt s) (take (n .count - n .first + 1) h)) index′ → Indexed (map (nameAt s) (take (n .count - n .first + 1) (drop (n .first) t))) index′
+  here-added index′ x = rw (← eh) x
+
+pub ruleset here-laws = (here-room, here-by, here-added)
+
+module _ (s t : List ℕ) (n : Seen) (at : ℕ) (b : List ℕ) (few : n .count ≤ length t) where
+  counted : length (take (n .count) t) ≡ n .count
+  counted = length-take-le (n .count) t few
+
+  pub admit-full : 256 ≤ n .count → Stop (TooLarge at) ≡ admitAt s (passedOf t n) at b
   unfolding admitAt
-  admit-full l = rw (counted, le-leb 256 count l)
+  admit-full l = rw (counted, le-leb 256 (n .count) l)
 
-  module _ (l : count < 256) (u n : List ℕ) (eu : u ≡ drop 3 b) (en : n ≡ nameOf u) (r : Bool) (er : r ≡ sameBytes n allUnnamed) where
-    room : leb 256 (length (take count t)) ≡ false
-    room = rw (counted) (lt-leb 256 count l)
+  module _ (h : List ℕ) (eh : h ≡ drop (n .first) t) where
+    pub admit-in : n .first ≤ n .count → n .count - n .first ≤ length h
+    admit-in p = rw eh (here-in t n p few)
 
-    named : n ≡ moduleName b
+    pub admit-by : (index : List ℕ) → Indexed (map (nameAt s) (hereOf t n)) index → Indexed (map (nameAt s) (take (n .count - n .first) h)) index
+    admit-by index x = rw eh x
+
+  module _ (l : n .count < 256) (u m : List ℕ) (eu : u ≡ drop 3 b) (em : m ≡ nameOf u) (r : Bool) (er : r ≡ sameBytes m allUnnamed) where
+    room : leb 256 (length (take (n .count) t)) ≡ false
+    room = rw (counted) (lt-leb 256 (n .count) l)
+
+    named : m ≡ moduleName b
     unfolding moduleName
     named = cc
 
-    pub admit-unnamed : r ≡ true → Stop (Repeated at) ≡ admitAt s (take count t) at b
+    pub admit-unnamed : r ≡ true → Stop (Repeated at) ≡ admitAt s (passedOf t n) at b
     unfolding admitAt
     admit-unnamed e = sym (rw (room, ← named, ← er, e))
 
-    module _ (e : r ≡ false) (f : Found) (ef : f ≡ findName (map (nameAt s) (take count t)) n 0) where
-      pub admit-twice : (j : ℕ) → f ≡ At j → Stop (Repeated at) ≡ admitAt s (take count t) at b
+    module _ (e : r ≡ false) (h : List ℕ) (eh : h ≡ drop (n .first) t) (f : Found) (ef : f ≡ findName (map (nameAt s) (take (n .count - n .first) h)) m 0) where
+      looked : (g : Found) → f ≡ g → findName (map (nameAt s) (hereOf t n)) m 0 ≡ g
+      looked g eg = rw (← eh) (sym ef ∙ eg)
+
+      pub admit-twice : (j : ℕ) → f ≡ At j → Stop (Repeated at) ≡ admitAt s (passedOf t n) at b
       unfolding admitAt
-      admit-twice j fj = sym (rw (room, ← named, ← er, e, found-in (map (nameAt s) (take count t)) n 0 j (sym ef ∙ fj)))
+      admit-twice j fj = sym (rw (room, ← named, ← er, e, found-in (map (nameAt s) (hereOf t n)) m 0 j (looked (At j) fj)))
 
-      pub admit-new : f ≡ Nothing → Start ≡ admitAt s (take count t) at b
+      pub admit-new : f ≡ Nothing → Start ≡ admitAt s (passedOf t n) at b
       unfolding admitAt
-      admit-new fn = sym (rw (room, ← named, ← er, e, found-not (map (nameAt s) (take count t)) n 0 (sym ef ∙ fn)))
+      admit-new fn = sym (rw (room, ← named, ← er, e, found-not (map (nameAt s) (hereOf t n)) m 0 (looked Nothing fn)))
 
-pub ruleset admit-laws = (admit-full, admit-unnamed, admit-twice, admit-new)
+pub ruleset admit-laws = (admit-full, admit-in, admit-by, admit-unnamed, admit-twice, admit-new)
 
-module _ (s starts : List ℕ) (at : ℕ) (k : Kind) (b : List ℕ) where
-  pub pass-module : (r : Verdict) → k ≡ Module → r ≡ admitAt s starts at b → r ≡ passAt s starts at k b
+module _ (s : List ℕ) (p : Passed) (at : ℕ) (k : Kind) (b : List ℕ) where
+  pub pass-module : (r : Verdict) → k ≡ Module → r ≡ admitAt s p at b → r ≡ passAt s p at k b
   unfolding passAt
   pass-module r e er = cc
 
-  pub pass-main : k ≡ MainClass → Main ≡ passAt s starts at k b
+  pub pass-main : k ≡ MainClass → Main ≡ passAt s p at k b
   unfolding passAt
   pass-main e = cc
 
-pub pass-other : (s starts : List ℕ) (at : ℕ) (k : Kind) (b : List ℕ) → OneOf (1 ∷ 2 ∷ 3 ∷ 4 ∷ 5 ∷ 6 ∷ 8 ∷ 9 ∷ 10 ∷ 11 ∷ 12 ∷ 13 ∷ []) (tagOf the-type k) → Pass ≡ passAt s starts at k b
+  place-is : k ≡ Place → passAt s p at k b ≡ enterAt p at
+  unfolding passAt
+  place-is e = cc
+
+  pub pass-ninth : k ≡ Place → 8 ≤ p .places → Stop (TooLarge at) ≡ passAt s p at k b
+  unfolding enterAt
+  pass-ninth e l = sym (place-is e ∙ rw (le-leb 8 (p .places) l))
+
+  pub pass-place : k ≡ Place → p .places < 8 → Enter ≡ passAt s p at k b
+  unfolding enterAt
+  pass-place e l = sym (place-is e ∙ rw (lt-leb 8 (p .places) l))
+
+-- every kind but MO, MC and PL
+abbrev inner : List ℕ
+inner = 1 ∷ 2 ∷ 3 ∷ 4 ∷ 5 ∷ 6 ∷ 9 ∷ 10 ∷ 11 ∷ 12 ∷ 13 ∷ 14 ∷ []
+
+pub pass-other : (s : List ℕ) (p : Passed) (at : ℕ) (k : Kind) (b : List ℕ) → OneOf inner (tagOf the-type k) → Pass ≡ passAt s p at k b
 unfolding passAt
-pass-other s starts at Module b h = absurd (miss (1 ∷ 2 ∷ 3 ∷ 4 ∷ 5 ∷ 6 ∷ 8 ∷ 9 ∷ 10 ∷ 11 ∷ 12 ∷ 13 ∷ []) 0 tt h)
-pass-other s starts at Requires b h = refl
-pass-other s starts at Exports b h = refl
-pass-other s starts at Opens b h = refl
-pass-other s starts at Uses b h = refl
-pass-other s starts at Provides b h = refl
-pass-other s starts at Package b h = refl
-pass-other s starts at MainClass b h = absurd (miss (1 ∷ 2 ∷ 3 ∷ 4 ∷ 5 ∷ 6 ∷ 8 ∷ 9 ∷ 10 ∷ 11 ∷ 12 ∷ 13 ∷ []) 7 tt h)
-pass-other s starts at Root b h = refl
-pass-other s starts at LimitModules b h = refl
-pass-other s starts at AddReads b h = refl
-pass-other s starts at AddExports b h = refl
-pass-other s starts at AddOpens b h = refl
-pass-other s starts at Other b h = refl
+pass-other s p at Module b h = absurd (miss inner 0 tt h)
+pass-other s p at Requires b h = refl
+pass-other s p at Exports b h = refl
+pass-other s p at Opens b h = refl
+pass-other s p at Uses b h = refl
+pass-other s p at Provides b h = refl
+pass-other s p at Package b h = refl
+pass-other s p at MainClass b h = absurd (miss inner 7 tt h)
+pass-other s p at Place b h = absurd (miss inner 8 tt h)
+pass-other s p at Root b h = refl
+pass-other s p at LimitModules b h = refl
+pass-other s p at AddReads b h = refl
+pass-other s p at AddExports b h = refl
+pass-other s p at AddOpens b h = refl
+pass-other s p at Other b h = refl
 
-pub ruleset pass-laws = (pass-module, pass-main, pass-other)
+pub ruleset pass-laws = (pass-module, pass-main, pass-ninth, pass-place, pass-other)
 
-module _ (s t : List ℕ) (count : ℕ) (main : Bool) (at mark start len : ℕ) (few : count ≤ length t)
-    (k : Kind) (ek : k ≡ setKind mark) (b : List ℕ) (eb : b ≡ take len (drop start s)) (p : Bool) (ep : p ≡ isPlaced count main k) where
-  placed : isPlaced (length (take count t)) main k ≡ p
-  placed = rw (counted s t count at b few) (sym ep)
+module _ (s t : List ℕ) (n : Seen) (at mark start len : ℕ) (parted : n .first ≤ n .count) (few : n .count ≤ length t)
+    (k : Kind) (ek : k ≡ setKind mark) (b : List ℕ) (eb : b ≡ take len (drop start s)) (p : Bool) (ep : p ≡ isPlaced (n .count - n .first) (n .main) k) where
+  placed : isPlaced (length (hereOf t n)) (n .main) k ≡ p
+  placed = rw (here-long t n parted few) (sym ep)
 
-  pub judge-out : p ≡ false → Stop (Malformed Set at) ≡ judgeAt s (take count t) main at (setKind mark) (take len (drop start s))
+  pub judge-out : p ≡ false → Stop (Malformed Set at) ≡ judgeAt s (passedOf t n) at (setKind mark) (take len (drop start s))
   unfolding judgeAt
   judge-out e = sym (rw (← ek, ← eb, placed, e))
 
-  pub judge-bad : (q : Bool) → p ≡ true → q ≡ isBody k b → q ≡ false → Stop (Malformed Set at) ≡ judgeAt s (take count t) main at (setKind mark) (take len (drop start s))
+  pub judge-bad : (q : Bool) → p ≡ true → q ≡ isBody k b → q ≡ false → Stop (Malformed Set at) ≡ judgeAt s (passedOf t n) at (setKind mark) (take len (drop start s))
   unfolding judgeAt
   judge-bad q e eq f = sym (rw (← ek, ← eb, placed, e, ← eq, f))
 
-  pub judge-pass : (q : Bool) (r : Verdict) → p ≡ true → q ≡ isBody k b → q ≡ true → r ≡ passAt s (take count t) at k b → r ≡ judgeAt s (take count t) main at (setKind mark) (take len (drop start s))
+  pub judge-pass : (q : Bool) (r : Verdict) → p ≡ true → q ≡ isBody k b → q ≡ true → r ≡ passAt s (passedOf t n) at k b → r ≡ judgeAt s (passedOf t n) at (setKind mark) (take len (drop start s))
   unfolding judgeAt
   judge-pass q r e eq f er = er ∙ sym (rw (← ek, ← eb, placed, e, ← eq, f))
 
@@ -178,65 +237,80 @@ refused-is e = refl
 -- ---- the whole set
 
 -- the records before `at` pass; their modules start at the first `count` entries of the table, whose other entries are 0;
--- the index has their names; and those from `at` on decide
-pub record CheckAt (s : List ℕ) (at : ℕ) (t index : List ℕ) (count : ℕ) (main : Bool) : Type 0 where
+-- the index has the names of those in the present place; and those from `at` on decide
+pub record CheckAt (s : List ℕ) (at : ℕ) (t index : List ℕ) (n : Seen) : Type 0 where
   pub within : at ≤ length s
-  pub few : count ≤ 256
-  pub zeros : t ≡ take count t ++ replicate (257 - count) 0
+  pub short : length s ≤ 65535
+  pub few : n .count ≤ 256
+  pub parted : n .first ≤ n .count
+  pub begun : n .places ≤ at + 1
+  pub zeros : t ≡ take (n .count) t ++ replicate (257 - n .count) 0
   pub long : length t ≡ 257
-  pub by : Indexed (map (nameAt s) (take count t)) index
-  pub left : checkSet s ≡ checkFrom s (record { starts = take count t; main = main }) at (records (drop at s))
+  pub by : Indexed (map (nameAt s) (hereOf t n)) index
+  pub left : checkSet s ≡ checkFrom s (passedOf t n) at (records (drop at s))
 
 pub check-long : (s : List ℕ) (r : Checked) → 65535 < length s → r ≡ refused (TooLarge 0) → r ≡ checkSet s
 unfolding checkSet
 check-long s r l e = e ∙ sym (rw (lt-ltb 65535 (length s) l))
 
-pub check-start : (s : List ℕ) → length s ≤ 65535 → CheckAt s 0 (replicate 257 0) (replicate 1280 0) 0 false
+pub check-start : (s : List ℕ) → length s ≤ 65535 → CheckAt s 0 (replicate 257 0) (replicate 1280 0) (record { count = 0; first = 0; places = 1; main = false })
 unfolding checkSet
 check-start s l = record {
   within = omega arith;
+  short = l;
   few = omega arith;
+  parted = omega arith;
+  begun = omega arith;
   zeros = refl;
   long = refl;
   by = indexed-none;
   left = rw (le-ltb 65535 (length s) l);
 }
 
-admit-room : (s starts : List ℕ) (at : ℕ) (b : List ℕ) → admitAt s starts at b ≡ Start → length starts < 256
+admit-room : (s : List ℕ) (p : Passed) (at : ℕ) (b : List ℕ) → admitAt s p at b ≡ Start → length (p .starts) < 256
 unfolding admitAt
-admit-room s starts at b e = go (leb 256 (length starts)) refl e
+admit-room s p at b e = go (leb 256 (length (p .starts))) refl e
   where
     rest : Verdict
-    rest = pickVerdict (sameBytes (moduleName b) allUnnamed || memName (moduleName b) (map (nameAt s) starts)) (Stop (Repeated at)) Start
+    rest = pickVerdict (sameBytes (moduleName b) allUnnamed || memName (moduleName b) (map (nameAt s) (p .here))) (Stop (Repeated at)) Start
 
-    go : (p : Bool) → leb 256 (length starts) ≡ p → pickVerdict p (Stop (TooLarge at)) rest ≡ Start → length starts < 256
-    go true ep h = clash (cc)
-    go false ep h = leb-false 256 (length starts) ep
+    go : (c : Bool) → leb 256 (length (p .starts)) ≡ c → pickVerdict c (Stop (TooLarge at)) rest ≡ Start → length (p .starts) < 256
+    go true ec h = clash (cc)
+    go false ec h = leb-false 256 (length (p .starts)) ec
 
-passed-room : (s starts : List ℕ) (at : ℕ) (k : Kind) (b : List ℕ) → passAt s starts at k b ≡ Start → length starts < 256
+enter-not : (p : Passed) (at : ℕ) → enterAt p at ≡ Start → ⊥
+unfolding enterAt
+enter-not p at e = go (leb 8 (p .places)) e
+  where
+    go : (c : Bool) → pickVerdict c (Stop (TooLarge at)) Enter ≡ Start → ⊥
+    go true h = clash (cc)
+    go false h = clash (cc)
+
+passed-room : (s : List ℕ) (p : Passed) (at : ℕ) (k : Kind) (b : List ℕ) → passAt s p at k b ≡ Start → length (p .starts) < 256
 unfolding passAt
-passed-room s starts at Module b e = admit-room s starts at b e
-passed-room s starts at Requires b e = clash (cc)
-passed-room s starts at Exports b e = clash (cc)
-passed-room s starts at Opens b e = clash (cc)
-passed-room s starts at Uses b e = clash (cc)
-passed-room s starts at Provides b e = clash (cc)
-passed-room s starts at Package b e = clash (cc)
-passed-room s starts at MainClass b e = clash (cc)
-passed-room s starts at Root b e = clash (cc)
-passed-room s starts at LimitModules b e = clash (cc)
-passed-room s starts at AddReads b e = clash (cc)
-passed-room s starts at AddExports b e = clash (cc)
-passed-room s starts at AddOpens b e = clash (cc)
-passed-room s starts at Other b e = clash (cc)
+passed-room s p at Module b e = admit-room s p at b e
+passed-room s p at Requires b e = clash (cc)
+passed-room s p at Exports b e = clash (cc)
+passed-room s p at Opens b e = clash (cc)
+passed-room s p at Uses b e = clash (cc)
+passed-room s p at Provides b e = clash (cc)
+passed-room s p at Package b e = clash (cc)
+passed-room s p at MainClass b e = clash (cc)
+passed-room s p at Place b e = absurd (enter-not p at e)
+passed-room s p at Root b e = clash (cc)
+passed-room s p at LimitModules b e = clash (cc)
+passed-room s p at AddReads b e = clash (cc)
+passed-room s p at AddExports b e = clash (cc)
+passed-room s p at AddOpens b e = clash (cc)
+passed-room s p at Other b e = clash (cc)
 
 -- a Start is given only where the table has room
-start-room : (s starts : List ℕ) (main : Bool) (at : ℕ) (k : Kind) (b : List ℕ) → judgeAt s starts main at k b ≡ Start → length starts < 256
+start-room : (s : List ℕ) (p : Passed) (at : ℕ) (k : Kind) (b : List ℕ) → judgeAt s p at k b ≡ Start → length (p .starts) < 256
 unfolding judgeAt
-start-room s starts main at k b e = go (isPlaced (length starts) main k && isBody k b) e
+start-room s p at k b e = go (isPlaced (length (p .here)) (p .main) k && isBody k b) e
   where
-    go : (p : Bool) → pickVerdict p (passAt s starts at k b) (Stop (Malformed Set at)) ≡ Start → length starts < 256
-    go true h = passed-room s starts at k b h
+    go : (c : Bool) → pickVerdict c (passAt s p at k b) (Stop (Malformed Set at)) ≡ Start → length (p .starts) < 256
+    go true h = passed-room s p at k b h
     go false h = clash (cc)
 
 table-more : (t : List ℕ) (count at : ℕ) → count < 257 → length t ≡ 257 → t ≡ take count t ++ replicate (257 - count) 0
@@ -247,26 +321,39 @@ table-more t count at l e z =
     let w : t ≡ take count t ++ (0 ∷ replicate (256 - count) 0) = z ∙ rw n in
     ap (λ (x : List ℕ). set x count at) w ∙ set-at (take count t) 0 (replicate (256 - count) 0) at count p
 
-module _ (s : List ℕ) (at : ℕ) (t index : List ℕ) (count : ℕ) (main : Bool) (h : CheckAt s at t index count main) where
-  pub check-add-in : (x : ℕ) → count < length (set t count x)
-  check-add-in x = rw (length-set t count x, h .long) (omega (arith, h .few))
+-- an entry more at the end of the table, and what that leaves of the present place
+module _ (t : List ℕ) (n : Seen) (parted : n .first ≤ n .count) (few : n .count < length t) (x : ℕ) where
+  later-set : drop (n .first) (set t (n .count) x) ≡ set (drop (n .first) t) (n .count - n .first) x
+  later-set =
+      let q : n .count ≡ n .first + (n .count - n .first) = omega arith in
+      ap (λ (i : ℕ). drop (n .first) (set t i x)) q ∙ drop-set-add (n .first) t (n .count - n .first) x
 
-  pub check-add-by : (x : ℕ) → Indexed (map (nameAt s) (take count (set t count x))) index
-  check-add-by x = rw (take-set-le count t count x (omega arith)) (h .by)
+  here-kept : take (n .count - n .first) (drop (n .first) (set t (n .count) x)) ≡ hereOf t n
+  here-kept = rw later-set (take-set-le (n .count - n .first) (drop (n .first) t) (n .count - n .first) x (omega arith))
 
-module _ (s : List ℕ) (at : ℕ) (t index : List ℕ) (count : ℕ) (main : Bool) (h : CheckAt s at t index count main) (step : Step) (es : step ≡ stepAt s at) where
-  pub check-room : count ≤ length t
+  here-more : take (n .count - n .first + 1) (drop (n .first) (set t (n .count) x)) ≡ hereOf t n ++ (x ∷ [])
+  here-more = rw (later-set, add-one) (take-suc-set (drop (n .first) t) (n .count - n .first) x (rw length-drop (omega arith)))
+
+module _ (s : List ℕ) (at : ℕ) (t index : List ℕ) (n : Seen) (h : CheckAt s at t index n) (x : ℕ) where
+  pub check-add-in : n .count < length (set t (n .count) x)
+  check-add-in = rw (length-set t (n .count) x, h .long) (omega (arith, h .few))
+
+  pub check-add-by : Indexed (map (nameAt s) (take (n .count - n .first) (drop (n .first) (set t (n .count) x)))) index
+  check-add-by = rw (here-kept t n (h .parted) (omega (arith, h .few, h .long)) x) (h .by)
+
+module _ (s : List ℕ) (at : ℕ) (t index : List ℕ) (n : Seen) (h : CheckAt s at t index n) (step : Step) (es : step ≡ stepAt s at) where
+  pub check-room : n .count ≤ length t
   check-room = omega (arith, h .few, h .long)
 
-  pub check-fits : count < 257
+  pub check-fits : n .count < 257
   check-fits = omega (arith, h .few)
 
   module _ (mark start len : ℕ) (next : Cursor) (er : step ≡ Record mark start len next)
-      (v : Verdict) (ev : v ≡ judgeAt s (take count t) main at (setKind mark) (take len (drop start s))) where
+      (v : Verdict) (ev : v ≡ judgeAt s (passedOf t n) at (setKind mark) (take len (drop start s))) where
     p : Stepped s at mark start len next
     p = stepped s at step es mark start len next er
 
-    turn : checkSet s ≡ goOn v (record { starts = take count t; main = main }) at (λ q. checkFrom s q (next .at) (records (drop (next .at) s)))
+    turn : checkSet s ≡ goOn v (passedOf t n) at (λ q. checkFrom s q (next .at) (records (drop (next .at) s)))
     unfolding checkFrom
     turn =
         h .left
@@ -275,44 +362,68 @@ module _ (s : List ℕ) (at : ℕ) (t index : List ℕ) (count : ℕ) (main : Bo
     inside : next .at ≤ length s
     inside = omega (arith, p .next-is, p .room)
 
+    more : n .places + 1 ≤ next .at + 1
+    more = omega (arith, p .next-is, h .begun)
+
     pub check-stop : (e : ModuleError) (r : Checked) → v ≡ Stop e → r ≡ refused e → r ≡ checkSet s
     unfolding goOn
     check-stop e r f g = g ∙ sym (turn ∙ rw f)
 
-    pub check-main : v ≡ Main → CheckAt s (next .at) t index count true
+    pub check-main : v ≡ Main → CheckAt s (next .at) t index (record { count = n .count; first = n .first; places = n .places; main = true })
     unfolding goOn
-    check-main f = record { within = inside; few = h .few; zeros = h .zeros; long = h .long; by = h .by; left = turn ∙ rw f }
+    check-main f = record { within = inside; short = h .short; few = h .few; parted = h .parted; begun = omega (arith, more); zeros = h .zeros; long = h .long; by = h .by; left = turn ∙ rw f }
 
-    pub check-pass : v ≡ Pass → CheckAt s (next .at) t index count main
+    pub check-pass : v ≡ Pass → CheckAt s (next .at) t index n
     unfolding goOn
-    check-pass f = record { within = inside; few = h .few; zeros = h .zeros; long = h .long; by = h .by; left = turn ∙ rw f }
+    check-pass f = record { within = inside; short = h .short; few = h .few; parted = h .parted; begun = omega (arith, more); zeros = h .zeros; long = h .long; by = h .by; left = turn ∙ rw f }
 
-    pub check-few : v ≡ Start → count < 256
+    -- a place begins: it has no module yet
+    nobody : n .count - n .count ≡ 0
+    nobody = omega arith
+
+    pub check-first : v ≡ Enter → at ≤ 0 → CheckAt s (next .at) t (replicate 1280 0) (record { count = n .count; first = n .count; places = n .places; main = n .main })
+    unfolding goOn placesAt
+    check-first f l = record { within = inside; short = h .short; few = h .few; parted = omega arith; begun = omega (arith, more); zeros = h .zeros; long = h .long; by = rw nobody indexed-none; left = turn ∙ rw (f, le-ltb 0 at l, nobody) }
+
+    pub check-enter : v ≡ Enter → 0 < at → CheckAt s (next .at) t (replicate 1280 0) (record { count = n .count; first = n .count; places = n .places + 1; main = n .main })
+    unfolding goOn placesAt
+    check-enter f l = record { within = inside; short = h .short; few = h .few; parted = omega arith; begun = more; zeros = h .zeros; long = h .long; by = rw nobody indexed-none; left = turn ∙ rw (f, lt-ltb 0 at l, nobody) }
+
+    pub check-few : v ≡ Start → n .count < 256
     check-few f =
-        let q : length (take count t) < 256 = start-room s (take count t) main at (setKind mark) (take len (drop start s)) (sym ev ∙ f) in
-        omega (arith, q, length-take-le count t (omega (arith, h .few, h .long)))
+        let q : length (take (n .count) t) < 256 = start-room s (passedOf t n) at (setKind mark) (take len (drop start s)) (sym ev ∙ f) in
+        omega (arith, q, length-take-le (n .count) t (omega (arith, h .few, h .long)))
 
-    pub check-start-fits : v ≡ Start → count + 1 ≤ 256
+    pub check-start-fits : v ≡ Start → n .count + 1 ≤ 256
     check-start-fits f = omega (arith, check-few f)
 
-    pub check-module : (index′ : List ℕ) → v ≡ Start → Indexed (map (nameAt s) (take (count + 1) (set t count at))) index′ → CheckAt s (next .at) (set t count at) index′ (count + 1) false
+    pub check-module : (index′ : List ℕ) → v ≡ Start → Indexed (map (nameAt s) (take (n .count - n .first + 1) (drop (n .first) (set t (n .count) at)))) index′
+        → CheckAt s (next .at) (set t (n .count) at) index′ (record { count = n .count + 1; first = n .first; places = n .places; main = false })
     unfolding goOn
     check-module index′ f x =
-        let l : count < 256 = check-few f in
-        let w : set t count at ≡ take count t ++ (at ∷ replicate (256 - count) 0) = table-more t count at (omega arith) (h .long) (h .zeros) in
-        let q : take (count + 1) (set t count at) ≡ take count t ++ (at ∷ []) = rw add-one (take-suc-set t count at (omega (arith, h .long))) in
-        let m : 257 - (count + 1) ≡ 256 - count = omega arith in
+        let k : n .count < 256 = check-few f in
+        let w : set t (n .count) at ≡ take (n .count) t ++ (at ∷ replicate (256 - n .count) 0) = table-more t (n .count) at (omega arith) (h .long) (h .zeros) in
+        let q : take (n .count + 1) (set t (n .count) at) ≡ take (n .count) t ++ (at ∷ []) = rw add-one (take-suc-set t (n .count) at (omega (arith, h .long))) in
+        let m : 257 - (n .count + 1) ≡ 256 - n .count = omega arith in
+        let d : n .count + 1 - n .first ≡ n .count - n .first + 1 = omega (arith, h .parted) in
+        let e : take (n .count - n .first + 1) (drop (n .first) (set t (n .count) at)) ≡ hereOf t n ++ (at ∷ []) = here-more t n (h .parted) (omega (arith, h .long)) at in
         record {
           within = inside;
+          short = h .short;
           few = omega arith;
-          zeros = rw (q, m) (w ∙ sym (append-snoc (take count t) at (replicate (256 - count) 0)));
-          long = length-set t count at ∙ h .long;
-          by = x;
-          left = rw q (turn ∙ rw f);
+          parted = omega (arith, h .parted);
+          begun = omega (arith, more);
+          zeros = rw (q, m) (w ∙ sym (append-snoc (take (n .count) t) at (replicate (256 - n .count) 0)));
+          long = length-set t (n .count) at ∙ h .long;
+          by = rw d x;
+          left = rw (q, d, e) (turn ∙ rw f);
         }
 
     pub check-less : length s - next .at < length s - at
     check-less = omega (arith, p .next-is, p .room)
+
+    pub check-places : n .places + 1 ≤ 65536
+    check-places = omega (arith, more, inside, h .short)
 
   pub check-bad : (r : Checked) → step ≡ Bad → r ≡ refused (Malformed Set at) → r ≡ checkSet s
   unfolding checkFrom
@@ -325,11 +436,11 @@ module _ (s : List ℕ) (at : ℕ) (t index : List ℕ) (count : ℕ) (main : Bo
         ne-eqb at (length s) (omega (arith, stepped-in s at step es e)),
       ))
 
-  pub check-end : step ≡ End → record { answer = Modules count; starts = set t count (length s) } ≡ checkSet s
+  pub check-end : step ≡ End → record { answer = Modules (n .count); starts = set t (n .count) (length s) } ≡ checkSet s
   unfolding checkFrom accepted tableOf
   check-end e =
-      let c : length (take count t) ≡ count = length-take-le count t (omega (arith, h .few, h .long)) in
-      let w : set t count (length s) ≡ take count t ++ (length s ∷ replicate (256 - count) 0) = table-more t count (length s) (omega (arith, h .few)) (h .long) (h .zeros) in
+      let c : length (take (n .count) t) ≡ n .count = length-take-le (n .count) t (omega (arith, h .few, h .long)) in
+      let w : set t (n .count) (length s) ≡ take (n .count) t ++ (length s ∷ replicate (256 - n .count) 0) = table-more t (n .count) (length s) (omega (arith, h .few)) (h .long) (h .zeros) in
       sym
       (h .left
       ∙ rw (
@@ -339,4 +450,4 @@ module _ (s : List ℕ) (at : ℕ) (t index : List ℕ) (count : ℕ) (main : Bo
         w,
       ))
 
-pub ruleset check-laws = (check-long, check-start, check-room, check-fits, check-stop, check-main, check-pass, check-start-fits, check-module, check-less, check-bad, check-end)
+pub ruleset check-laws = (check-long, check-start, check-room, check-fits, check-stop, check-main, check-pass, check-first, check-enter, check-places, check-start-fits, check-module, check-less, check-bad, check-end)

@@ -7,32 +7,34 @@ use Prim.Native.Nat.{ℕ, zero, suc, _+_, _≤_, _<_}
 use native.Mathlib.Omega.{arith}
 use native.Mathlib.Numerals.{add-one}
 use lib.Dec.{eqb, ltb}
-use lib.ListN.{length, getD, take, replicate, length-map, length-take, List·getD-map}
-use lib.Seq.{getD-take, take-suc}
+use lib.ListN.{length, getD, take, replicate}
+use lib.Seq.{take-suc}
 use mir.Syntax.{w64}
 use mir.Val.{Fits}
 use borrow.Author.Tests.{eq-eqb, ne-eqb, eqb-true, lt-ltb, ltb-true, ltb-false}
-use Rattle.records.specs.Descriptor.{Descriptor, descriptorOf}
+use Rattle.records.specs.Descriptor.{Descriptor}
 use Rattle.records.specs.Request.{requestOf, isPermitted}
-use Rattle.records.specs.Set.{checkSet, nameAt, modules, distinct}
+use Rattle.records.specs.Set.{checkSet, nameAt, modules}
+use Rattle.records.specs.Finder.{isFirst}
 use Rattle.records.specs.declared.error.ModuleError.{ModuleError}
 use Rattle.records.specs.declared.set.SetAnswer.the-variants.{Modules}
 use Rattle.records.proofs.set.Blocks.{GoodSet, good-set}
 use Rattle.records.proofs.Logic.{by, true≠false}
 use Rattle.resolution.specs.Lists.{Name, Mem, any}
-use Rattle.resolution.specs.Resolution.{names, find, hasModule}
-use Rattle.resolution.specs.Positions.{moduleAt}
+use Rattle.resolution.specs.Resolution.{find, hasModule}
+use Rattle.resolution.specs.Positions.{moduleAt, isVisible}
 use Rattle.resolution.specs.Row.{holds, Empty, Added}
-use Rattle.resolution.specs.Readability.{Members, ReadEdges}
+use Rattle.resolution.specs.Readability.{Members, ReadEdges, tableNames}
 use Rattle.resolution.specs.Resolver.{isOneOf}
 use Rattle.resolution.specs.Resolve.{memberAt, edgeAt, unnamedAt, configurationOf, refused}
+use Rattle.resolution.specs.Lookup.{Lookup}
+use Rattle.records.specs.Index.{Indexed}
 use Rattle.resolution.specs.Configure.{MemberRow, AcceptedWith, Configured, PermittedRow}
 use Rattle.resolution.specs.declared.resolve.Outcome.the-variants.{Accepted, Refused}
 use Rattle.resolution.specs.declared.resolve.Resolution.{Resolution}
-use Rattle.resolution.proofs.Find.{has-find, unique-of}
 use Rattle.resolution.proofs.Lists.{any-out, map-out}
-use Rattle.resolution.proofs.Positions.{at-mem, index-at, has-at}
-use Rattle.resolution.proofs.Sets.{set-length}
+use Rattle.resolution.proofs.Positions.{index-at, has-at, visible-in, visible-found, visible-located}
+use Rattle.resolution.proofs.Sets.{set-length, starts-long, name-at-start, visible-start}
 use Rattle.resolution.proofs.Words.{words-are, edges-are}
 use Rattle.resolution.proofs.resolver.Ends.{one-of-end}
 
@@ -41,68 +43,42 @@ use Rattle.resolution.proofs.resolver.Ends.{one-of-end}
 before : (j k : ℕ) → j < k + 1 → eqb j k ≡ false → j < k
 before j k b y = by (ltb j k) (λ z. ltb-true j k z) (λ z. true≠false (eq-eqb j k (omega (arith, ltb-false j k z))) y)
 
--- within a list, what stands for its end does not matter
-getD-any : {A : Type 0} (l : List A) (i : ℕ) (a b : A) → i < length l → getD l i a ≡ getD l i b
-getD-any [] i a b h = absurd (omega arith)
-getD-any (x ∷ l) zero a b h = refl
-getD-any (x ∷ l) (suc i) a b h = getD-any l i a b (omega arith)
-
-module _ (s : List ℕ) (n : ℕ) (t : List ℕ) (e : checkSet s ≡ record { answer = Modules n; starts = t }) where
-  good : GoodSet s n t
-  good = good-set s n t e
-
-  long : length (map (nameAt s) (take n t)) ≡ n
-  long = ap length (good .names) ∙ length-map (modules s) (λ (m : Descriptor). m .name) ∙ set-length s n t good
-
-  -- the table has a start for each module
-  pub starts-room : n ≤ length t
-  starts-room = omega (arith, long, length-map (take n t) (nameAt s), length-take n t)
-
-  pub starts-long : (k : ℕ) → k < n → k < length t
-  starts-long k l = omega (arith, starts-room)
-
-  -- the name found by the table is the name of the module
-  pub name-at-start : (k : ℕ) → k < n → nameAt s (getD t k 0) ≡ moduleAt (modules s) k .name
-  name-at-start k l =
-      ap (nameAt s) (sym (getD-take n t k 0 l)) ∙ sym (List·getD-map (nameAt s) (take n t) k 0)
-      ∙ getD-any (map (nameAt s) (take n t)) k (nameAt s 0) (descriptorOf [] .name) (omega (arith, long))
-      ∙ ap (λ (x : List Name). getD x k (descriptorOf [] .name)) (good .names)
-      ∙ List·getD-map (λ (m : Descriptor). m .name) (modules s) k (descriptorOf [])
-
 -- those below k are looked at
 pub record PermittedAt (s q : List ℕ) (n : ℕ) (ws : List ℕ) (k : ℕ) : Type 0 where
   pub within : k ≤ n
-  pub so-far : (j : ℕ) → j < k → holds ws j ≡ isPermitted (requestOf q) (moduleAt (modules s) j .name)
+  pub so-far : (j : ℕ) → j < k → holds ws j ≡ isVisible (modules s) j && isPermitted (requestOf q) (moduleAt (modules s) j .name)
   pub later : (j : ℕ) → k ≤ j → holds ws j ≡ false
 
 pub permitted-start : (s q : List ℕ) (n : ℕ) (ws : List ℕ) → Empty ws → PermittedAt s q n ws 0
 permitted-start s q n ws h = record { within = omega arith; so-far = λ j l. absurd (omega arith); later = λ j l. h .none j }
 
 pub permitted-end : (s q : List ℕ) (n : ℕ) (ws : List ℕ) (k : ℕ) → PermittedAt s q n ws k → n ≤ k → PermittedRow s q n ws
-permitted-end s q n ws k h l = record { each = λ i b. h .so-far i (omega arith) }
+permitted-end s q n ws k h l = record { past = λ i b. h .later i (omega (arith, h .within)); each = λ i b. h .so-far i (omega arith) }
 
 module _ (s q : List ℕ) (n : ℕ) (t : List ℕ) (e : checkSet s ≡ record { answer = Modules n; starts = t })
-    (ws : List ℕ) (k : ℕ) (h : PermittedAt s q n ws k) (l : k < n) (x : Name) (ex : x ≡ nameAt s (getD t k 0))
-    (r : Bool) (er : r ≡ isPermitted (requestOf q) x) where
-  here : r ≡ isPermitted (requestOf q) (moduleAt (modules s) k .name)
-  here = er ∙ ap (isPermitted (requestOf q)) (ex ∙ name-at-start s n t e k l)
+    (ws : List ℕ) (k : ℕ) (h : PermittedAt s q n ws k) (l : k < n) where
+  -- the test of position k
+  passes : Bool
+  passes = isVisible (modules s) k && isPermitted (requestOf q) (moduleAt (modules s) k .name)
 
-  pub permitted-not : r ≡ false → PermittedAt s q n ws (k + 1)
-  permitted-not f = record {
+  stays : passes ≡ false → PermittedAt s q n ws (k + 1)
+  unfolding passes
+  stays f = record {
     within = omega arith;
     so-far = λ j b. by (eqb j k)
         (λ y. let i : j ≡ k = eqb-true j k y in
-        subst (λ (z : ℕ). holds ws z ≡ isPermitted (requestOf q) (moduleAt (modules s) z .name)) (sym i) (h .later k (omega arith) ∙ sym f ∙ here))
+        subst (λ (z : ℕ). holds ws z ≡ isVisible (modules s) z && isPermitted (requestOf q) (moduleAt (modules s) z .name)) (sym i) (h .later k (omega arith) ∙ sym f))
         (λ y. h .so-far j (before j k b y));
     later = λ j b. h .later j (omega arith);
   }
 
-  pub permitted-more : (after : List ℕ) → r ≡ true → Added ws k after → PermittedAt s q n after (k + 1)
-  permitted-more after f a = record {
+  grows : (after : List ℕ) → passes ≡ true → Added ws k after → PermittedAt s q n after (k + 1)
+  unfolding passes
+  grows after f a = record {
     within = omega arith;
     so-far = λ j b. added j ∙ by (eqb j k)
         (λ y. let i : j ≡ k = eqb-true j k y in
-        rw y (or-true (holds ws j)) ∙ sym f ∙ here ∙ ap (λ (z : ℕ). isPermitted (requestOf q) (moduleAt (modules s) z .name)) (sym i))
+        rw y (or-true (holds ws j)) ∙ sym f ∙ ap (λ (z : ℕ). isVisible (modules s) z && isPermitted (requestOf q) (moduleAt (modules s) z .name)) (sym i))
         (λ y. rw y (or-false (holds ws j)) ∙ h .so-far j (before j k b y));
     later = λ j b. added j ∙ rw (ne-eqb j k (λ i. absurd (omega arith))) (or-false (holds ws j)) ∙ h .later j (omega arith);
   }
@@ -110,7 +86,36 @@ module _ (s q : List ℕ) (n : ℕ) (t : List ℕ) (e : checkSet s ≡ record { 
       added : (j : ℕ) → holds after j ≡ holds ws j || eqb j k
       added j = a .below (omega (arith, good-set s n t e .few)) j
 
-pub ruleset permitted-laws = (permitted-start, permitted-end, starts-long, permitted-not, permitted-more)
+  module _ (v : Bool) (ev : v ≡ isFirst (tableNames s t n) (nameAt s (getD t k 0)) k) where
+    seen : v ≡ isVisible (modules s) k
+    seen = ev ∙ sym (visible-start s n t e k l)
+
+    pub permitted-hidden : v ≡ false → PermittedAt s q n ws (k + 1)
+    unfolding passes
+    permitted-hidden h = stays (rw (← seen, h))
+
+    module _ (x : Name) (ex : x ≡ nameAt s (getD t k 0)) (r : Bool) (er : r ≡ isPermitted (requestOf q) x) where
+      here : v ≡ true → passes ≡ r
+      unfolding passes
+      here h = rw (← seen, h) (sym (er ∙ ap (isPermitted (requestOf q)) (ex ∙ name-at-start s n t e k l)))
+
+      pub permitted-not : v ≡ true → r ≡ false → PermittedAt s q n ws (k + 1)
+      permitted-not h g = stays (here h ∙ g)
+
+      pub permitted-more : (after : List ℕ) → v ≡ true → r ≡ true → Added ws k after → PermittedAt s q n after (k + 1)
+      permitted-more after h g a = grows after (here h ∙ g) a
+
+-- what the index asks
+pub permitted-few : (s t index : List ℕ) (n : ℕ) → Lookup s t n index → n ≤ 256
+permitted-few s t index n x = x .few
+
+pub permitted-room : (s t index : List ℕ) (n : ℕ) → Lookup s t n index → n ≤ length t
+permitted-room s t index n x = x .within
+
+pub permitted-index : (s t index : List ℕ) (n : ℕ) → Lookup s t n index → Indexed (map (nameAt s) (take n t)) index
+permitted-index s t index n x = x .indexed
+
+pub ruleset permitted-laws = (permitted-start, permitted-end, starts-long, permitted-few, permitted-room, permitted-index, permitted-hidden, permitted-not, permitted-more)
 
 -- ---- the positions as a row
 
@@ -184,28 +189,25 @@ accept-is members reads unnamed lm lr lu fm fr fu = record {
 }
 
 -- the row of the positions has the modules at them
-module _ (s : List Descriptor) (d : distinct (names s) ≡ true) (few : length s ≤ 256) (ps ws : List ℕ) (h : MemberRow ps ws)
-    (within : (p : ℕ) → Mem p ps → p < length s) where
-  none-past : (k : ℕ) → length s ≤ k → isOneOf k ps ≡ false
+module _ (s : List Descriptor) (few : length s ≤ 256) (ps ws : List ℕ) (h : MemberRow ps ws) (within : (p : ℕ) → Mem p ps → isVisible s p ≡ true) where
+  none-hidden : (k : ℕ) → isVisible s k ≡ false → isOneOf k ps ≡ false
   unfolding isOneOf
-  none-past k l = by (any (eqb k) ps)
-      (λ y. let r = any-out (eqb k) ps y in absurd (omega (arith, within (r .0) (r .1), eqb-true k (r .0) (r .2))))
+  none-hidden k f = by (any (eqb k) ps)
+      (λ y. let r = any-out (eqb k) ps y in true≠false (subst (λ (x : ℕ). isVisible s x ≡ true) (sym (eqb-true k (r .0) (r .2))) (within (r .0) (r .1))) f)
       (λ y. y)
 
-  member-here : (k : ℕ) → k < length s → isOneOf k ps ≡ hasModule (map (moduleAt s) ps) (moduleAt s k .name)
+  member-here : (k : ℕ) → isVisible s k ≡ true → isOneOf k ps ≡ hasModule (map (moduleAt s) ps) (moduleAt s k .name)
   unfolding isOneOf
-  member-here k l =
-      let has : hasModule s (moduleAt s k .name) ≡ true = has-find (moduleAt s k .name) s (moduleAt s k) (unique-of s d (moduleAt s k) (at-mem s k l)) in
-      sym (has-at s (moduleAt s k .name) d has ps within ∙ ap (λ (i : ℕ). any (eqb i) ps) (index-at s k d l))
+  member-here k v = sym (has-at s (moduleAt s k .name) (visible-located s k v .observable) ps within ∙ ap (λ (i : ℕ). any (eqb i) ps) (index-at s k v))
 
   pub row-members : Members s ws (map (moduleAt s) ps)
   unfolding memberAt
   row-members = record {
-    each = λ k. h .each k ∙ by (ltb k (length s))
-        (λ y. let l : k < length s = ltb-true k (length s) y in rw (y, lt-ltb k 256 (omega arith), member-here k l))
-        (λ y. rw (y, none-past k (ltb-false k (length s) y)) (and-false (ltb k 256)));
+    each = λ k. h .each k ∙ by (isVisible s k)
+        (λ y. rw (y, lt-ltb k 256 (omega (arith, visible-in s k y)), member-here k y))
+        (λ y. rw (y, none-hidden k y) (and-false (ltb k 256)));
     sound = λ m i. let r = map-out (moduleAt s) ps i in
-        subst (λ (x : Descriptor). find (x .name) s ≡ some x) (sym (r .2)) (unique-of s d (moduleAt s (r .0)) (at-mem s (r .0) (within (r .0) (r .1))));
+        subst (λ (x : Descriptor). find (x .name) s ≡ some x) (sym (r .2)) (visible-found s (r .0) (within (r .0) (r .1)));
   }
 
 pub configure-is : (s q : List ℕ) (n : ℕ) (t : List ℕ) → checkSet s ≡ record { answer = Modules n; starts = t }
@@ -218,7 +220,7 @@ configure-is s q n t e ps members reads unnamed r hm hr ha = record {
       let k : length (modules s) ≡ n = set-length s n t g in
       let own : Members (modules s) members ms
       = subst (Members (modules s) members) (sym em)
-      (row-members (modules s) (g .once) (omega (arith, k, g .few)) ps members hm (λ p i. omega (arith, k, w p i))) in
+      (row-members (modules s) (omega (arith, k, g .few)) ps members hm w) in
       ha .is (memberAt (modules s) ms) (edgeAt (modules s) (requestOf q) ms) (unnamedAt (modules s) (requestOf q) ms)
       (λ i _. own .each i) (λ i j _ _. hr .edges ms own i j) (λ i _. hr .named ms own i);
 }

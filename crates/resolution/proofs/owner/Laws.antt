@@ -1,15 +1,15 @@
 -- The owner of a package: what each turn and each return shows.
-use Prim.Native.Nat.{ℕ, _+_, _≤_, _<_}
+use Prim.Native.Nat.{ℕ, zero, suc, _+_, _-_, _≤_, _<_}
 use mathlib.Core.Path.{_≡_, refl, sym, ap, _∙_}
-use mathlib.Core.Bool.{Bool, true, false}
-use mathlib.Core.List.{List, []}
+use mathlib.Core.Bool.{Bool, true, false, _&&_}
+use mathlib.Core.List.{List}
 use native.Mathlib.Omega.{arith}
 use native.Mathlib.Numerals.{add-one}
-use lib.ListN.{length, drop, drop-of-length-le}
-use lib.Seq.{drop-cons}
 use Rattle.records.specs.Name.{memName}
 use Rattle.records.specs.Descriptor.{descriptorOf}
 use Rattle.records.specs.Set.{blockAt, modules, checkSet}
+use Rattle.records.specs.Finder.{findName, isAt, isFirst}
+use Rattle.records.specs.declared.finder.Found.{Found}
 use Rattle.records.specs.declared.error.ModuleError.{ModuleError}
 use Rattle.records.specs.declared.set.Checked.{Checked}
 use Rattle.records.specs.declared.set.SetAnswer.{SetAnswer}
@@ -17,28 +17,42 @@ use Rattle.records.specs.declared.set.SetAnswer.the-variants as Set
 use Rattle.records.proofs.set.Blocks.{GoodSet, good-set}
 use Rattle.resolution.specs.Lists.{Name}
 use Rattle.resolution.specs.Row.{holds}
-use Rattle.resolution.specs.PackageOwner.{ownsAt, ownerFrom, ownerIn, findModuleForPackage, pickOwner}
+use Rattle.resolution.specs.Resolution.{names}
+use Rattle.resolution.specs.Readability.{tableNames}
+use Rattle.resolution.specs.Positions.{moduleAt, isVisible}
+use Rattle.resolution.specs.Observed.{hasMember}
+use Rattle.resolution.specs.PackageOwner.{pickOwner, ownsAt, lowest, ownerIn, findModuleForPackage}
+use Rattle.resolution.specs.Lookup.{ownsBy}
 use Rattle.resolution.specs.declared.configuration.Configuration.{Configuration}
 use Rattle.resolution.specs.declared.owner.Owner.the-variants.{At, Nothing, Refused}
-use Rattle.resolution.proofs.Sets.{set-length, module-block}
+use Rattle.resolution.proofs.Sets.{module-block}
 
-module _ (s t : List ℕ) (members : List ℕ) (p : Name) (i : ℕ) (a : Bool) (ea : a ≡ holds members i) where
-  pub owns-yes : a ≡ true → (b : List ℕ) → b ≡ blockAt s t i → (r : Bool) → r ≡ memName p (descriptorOf b .packages)
-      → r ≡ ownsAt members p i (descriptorOf (blockAt s t i))
-  unfolding ownsAt
-  owns-yes y b eb r er = er ∙ sym (rw (← ea, y, ← eb))
+module _ (s t : List ℕ) (n : ℕ) (members : List ℕ) (p : Name) (i : ℕ) (a : Bool) (ea : a ≡ holds members i) where
+  module _ (y : a ≡ true) (b : List ℕ) (eb : b ≡ blockAt s t i) (r : Bool) (er : r ≡ memName p (descriptorOf b .packages)) where
+    pub owns-seen : r ≡ true → (x : Name) (f : Found) (v : Bool) → x ≡ descriptorOf b .name → f ≡ findName (tableNames s t n) x 0 → v ≡ isAt f i
+        → v ≡ ownsBy (tableNames s t n) members p i (descriptorOf (blockAt s t i))
+    unfolding ownsBy isFirst
+    owns-seen z x f v ex ef ev = ev ∙ rw (ef, ex) (sym (rw (← ea, y, ← eb, ← er, z)))
 
-  pub owns-no : a ≡ false → false ≡ ownsAt members p i (descriptorOf (blockAt s t i))
-  unfolding ownsAt
+    pub owns-lacks : r ≡ false → false ≡ ownsBy (tableNames s t n) members p i (descriptorOf (blockAt s t i))
+    unfolding ownsBy
+    owns-lacks z = sym (rw (← ea, y, ← eb, ← er, z))
+
+  pub owns-no : a ≡ false → false ≡ ownsBy (tableNames s t n) members p i (descriptorOf (blockAt s t i))
+  unfolding ownsBy
   owns-no f = sym (rw (← ea, f))
 
-pub ruleset owns-laws = (owns-yes, owns-no)
+pub ruleset owns-laws = (owns-seen, owns-lacks, owns-no)
+
+-- what code finds at each position, over the modules of the set
+abbrev ownsIn : List ℕ → List ℕ → Name → ℕ → Bool
+ownsIn s ws p k = ownsBy (names (modules s)) ws p k (moduleAt (modules s) k)
 
 -- the check took the set; no position before i owns the package, and those from i on decide
 pub record OwnerAt (s t : List ℕ) (n : ℕ) (members : List ℕ) (p : Name) (i : ℕ) : Type 0 where
   pub good : GoodSet s n t
   pub taken : checkSet s .answer ≡ Set.Modules n
-  pub left : ownerFrom members p 0 (modules s) ≡ ownerFrom members p i (drop i (modules s))
+  pub left : lowest (ownsIn s members p) 0 n ≡ lowest (ownsIn s members p) i (n - i)
 
 module _ (s : List ℕ) (p : Name) (k : Checked) (ek : k ≡ checkSet s) where
   pub owner-refused : (c : Configuration) (e : ModuleError) → k .answer ≡ Set.Refused e → Refused e ≡ findModuleForPackage s c p
@@ -49,30 +63,48 @@ module _ (s : List ℕ) (p : Name) (k : Checked) (ek : k ≡ checkSet s) where
   owner-start members n h = record {
     good = good-set s n (k .starts) (sym ek ∙ ap (λ (x : SetAnswer). record { answer = x; starts = k .starts }) h);
     taken = sym (ap (λ (x : Checked). x .answer) ek) ∙ h;
-    left = refl;
+    left = let z : n ≡ n - 0 = omega arith in ap (lowest (ownsIn s members p) 0) z;
   }
 
 module _ (s t : List ℕ) (n : ℕ) (members : List ℕ) (p : Name) (i : ℕ) (o : OwnerAt s t n members p i) where
-  turn : i < n → ownerFrom members p 0 (modules s)
-      ≡ pickOwner (ownsAt members p i (descriptorOf (blockAt s t i))) (At i) (ownerFrom members p (i + 1) (drop (i + 1) (modules s)))
-  unfolding ownerFrom
+  turn : i < n → lowest (ownsIn s members p) 0 n
+      ≡ pickOwner (ownsBy (tableNames s t n) members p i (descriptorOf (blockAt s t i))) (At i) (lowest (ownsIn s members p) (i + 1) (n - (i + 1)))
+  unfolding lowest
   turn l =
-      let m : i < length (modules s) = omega (arith, set-length s n t (o .good)) in
-      o .left ∙ rw (drop-cons (modules s) i (descriptorOf []) m, module-block s n t (o .good) i l, add-one i)
+      let z : n - i ≡ suc (n - (i + 1)) = omega arith in
+      o .left ∙ rw (z, module-block s n t (o .good) i l, add-one i, ← (o .good .names))
 
-  pub owner-more : i < n → (r : Bool) → r ≡ ownsAt members p i (descriptorOf (blockAt s t i)) → r ≡ false → OwnerAt s t n members p (i + 1)
+  pub owner-more : i < n → (r : Bool) → r ≡ ownsBy (tableNames s t n) members p i (descriptorOf (blockAt s t i)) → r ≡ false → OwnerAt s t n members p (i + 1)
   owner-more l r er f = record { good = o .good; taken = o .taken; left = turn l ∙ rw (← er, f) }
 
-module _ (s t : List ℕ) (n : ℕ) (c : Configuration) (p : Name) (i : ℕ) (o : OwnerAt s t n (c .members) p i) where
-  whole : findModuleForPackage s c p ≡ ownerFrom (c .members) p 0 (modules s)
-  unfolding findModuleForPackage ownerIn
-  whole = rw (o .taken)
+-- code asks what the definition asks
+owns-is : (s : List ℕ) (c : Configuration) (p : Name) (k : ℕ) → ownsAt (modules s) c p k ≡ ownsIn s (c .members) p k
+unfolding ownsAt ownsBy hasMember isVisible
+owns-is s c p k = turned (isFirst (names (modules s)) (moduleAt (modules s) k .name) k) (holds (c .members) k) (memName p (moduleAt (modules s) k .packages))
+  where
+    turned : (v h m : Bool) → (v && h) && m ≡ h && (m && v)
+    turned true true true = refl
+    turned true true false = refl
+    turned true false m = refl
+    turned false true true = refl
+    turned false true false = refl
+    turned false false m = refl
 
-  pub owner-here : i < n → (r : Bool) → r ≡ ownsAt (c .members) p i (descriptorOf (blockAt s t i)) → r ≡ true → At i ≡ findModuleForPackage s c p
+pub lowest-over : (q r : ℕ → Bool) → ((k : ℕ) → q k ≡ r k) → (k n : ℕ) → lowest q k n ≡ lowest r k n
+unfolding lowest
+lowest-over q r h k zero = refl
+lowest-over q r h k (suc n) = rw (h k, lowest-over q r h (suc k) n)
+
+module _ (s t : List ℕ) (n : ℕ) (c : Configuration) (p : Name) (i : ℕ) (o : OwnerAt s t n (c .members) p i) where
+  whole : findModuleForPackage s c p ≡ lowest (ownsIn s (c .members) p) 0 n
+  unfolding findModuleForPackage ownerIn
+  whole = rw (o .taken) (lowest-over (ownsAt (modules s) c p) (ownsIn s (c .members) p) (owns-is s c p) 0 n)
+
+  pub owner-here : i < n → (r : Bool) → r ≡ ownsBy (tableNames s t n) (c .members) p i (descriptorOf (blockAt s t i)) → r ≡ true → At i ≡ findModuleForPackage s c p
   owner-here l r er f = sym (whole ∙ turn s t n (c .members) p i o l ∙ rw (← er, f))
 
   pub owner-none : n ≤ i → Nothing ≡ findModuleForPackage s c p
-  unfolding ownerFrom
-  owner-none l = sym (whole ∙ o .left ∙ rw (drop-of-length-le (modules s) {i = i} (omega (arith, set-length s n t (o .good)))))
+  unfolding lowest
+  owner-none l = let z : n - i ≡ 0 = omega arith in sym (whole ∙ o .left ∙ rw z)
 
 pub ruleset owner-laws = (owner-refused, owner-start, owner-here, owner-more, owner-none)

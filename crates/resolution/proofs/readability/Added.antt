@@ -9,7 +9,7 @@ use Rattle.records.specs.Bytes.{sameBytes}
 use Rattle.records.specs.Name.{allUnnamed, nameOf, afterName}
 use Rattle.records.specs.Record.{bodies, nextOf}
 use Rattle.records.specs.Request.{readOf, requestOf}
-use Rattle.records.specs.Finder.{findName}
+use Rattle.records.specs.Finder.{findName, isAt}
 use Rattle.records.specs.declared.finder.Found.{Found}
 use Rattle.records.specs.declared.finder.Found.the-variants.{At, Nothing}
 use Rattle.records.specs.declared.record.Cursor.{Cursor}
@@ -20,7 +20,7 @@ use Rattle.records.proofs.record.Bodies.{bodies-next, bodies-end, next-room, ne
 use Rattle.resolution.specs.Lists.{Name, any}
 use Rattle.resolution.specs.Row.{holds, Empty}
 use Rattle.resolution.specs.Graph.{edge, AddedEdge}
-use Rattle.resolution.specs.Readability.{memberOf, isAt, isNamed, Below, edgeFrom, unnamedFrom, readAt, unnamedIn, WithMore, WithEdges, ReadAdded, ReadsAdded}
+use Rattle.resolution.specs.Readability.{memberOf, isNamed, Below, edgeFrom, unnamedFrom, readAt, unnamedIn, WithMore, WithEdges, ReadAdded, ReadsAdded}
 use Rattle.resolution.proofs.readability.Laws.{at-below, member-below}
 
 -- ---- AR

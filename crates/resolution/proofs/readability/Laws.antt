@@ -14,7 +14,7 @@ use Rattle.records.specs.Name.{javaBase}
 use Rattle.records.specs.Record.{bodies, nextOf}
 use Rattle.records.specs.Descriptor.{requirementOf, descriptorOf}
 use Rattle.records.specs.Set.{blockAt}
-use Rattle.records.specs.Finder.{findName}
+use Rattle.records.specs.Finder.{findName, isAt}
 use Rattle.records.specs.declared.finder.Found.{Found}
 use Rattle.records.specs.declared.finder.Found.the-variants.{At, Nothing}
 use Rattle.records.specs.declared.record.Cursor.{Cursor}
@@ -26,7 +26,7 @@ use Rattle.records.proofs.Logic.{true≠false, by}
 use Rattle.resolution.specs.Lists.{Name, any}
 use Rattle.resolution.specs.Row.{holds, Empty, Added}
 use Rattle.resolution.specs.Graph.{ReachedFrom}
-use Rattle.resolution.specs.Readability.{memberOf, isAt, isNamed, isRequired, requiredAt, directAt, directFrom, othersAt, transitiveAt, Below, ModuleReads, WithMore, Holding}
+use Rattle.resolution.specs.Readability.{memberOf, isNamed, isRequired, requiredAt, directAt, directFrom, othersAt, transitiveAt, Below, ModuleReads, WithMore, Holding}
 use Rattle.resolution.proofs.row.Laws.{holds-out}
 
 -- ---- the member of a name

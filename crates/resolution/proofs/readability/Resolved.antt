@@ -7,30 +7,27 @@ use mathlib.Core.Bool.{Bool, true, false, not, _&&_, _||_, cond}
 use mathlib.Core.Option.{Option, none, some}
 use mathlib.Core.List.{List, [], _∷_, map, flatMap, List·Memᴰ·head, List·Memᴰ·not-nil, List·Memᴰ·cases-cons, List·Memᴰ·append-cases, Memᴰ·append-left, Memᴰ·append-right, Memᴰ·cast}
 use mathlib.Core.Logic.{_⊎_, inl, inr, ⊎-elim}
-use lib.Dec.{ltb}
-use lib.ListN.{length}
-use borrow.Author.Tests.{eq-eqb, eqb-true, ltb-true, lt-ltb, not-true}
+use borrow.Author.Tests.{eq-eqb, eqb-true, not-true}
 use Rattle.records.specs.Bytes.{sameBytes}
 use Rattle.records.specs.Name.{javaBase}
 use Rattle.records.specs.Descriptor.{Requirement, Descriptor}
-use Rattle.records.specs.Set.{distinct}
-use Rattle.records.specs.Finder.{findName, pickFound}
+use Rattle.records.specs.Finder.{findName, pickFound, isAt}
 use Rattle.records.specs.declared.finder.Found.{Found}
 use Rattle.records.specs.declared.finder.Found.the-variants.{At, Nothing}
-use Rattle.records.proofs.Logic.{and-both, and-left, and-right, by, or-cases, or-left, or-right, true≠false}
+use Rattle.records.proofs.Logic.{and-both, and-left, and-right, and-split, by, or-cases, or-left, or-right, true≠false}
 use Rattle.resolution.specs.Lists.{Name, Mem, keep}
 use Rattle.resolution.specs.Resolution.{names, find, hasModule, indexOf}
 use Rattle.resolution.specs.Reads.{directReads, transitiveNames, transitiveOf, requiredNames, impliedReads}
-use Rattle.resolution.specs.Positions.{moduleAt}
+use Rattle.resolution.specs.Positions.{moduleAt, isVisible}
 use Rattle.resolution.specs.Row.{holds}
 use Rattle.resolution.specs.Graph.{edge, Reach, step, then, ReachedFrom}
 use Rattle.resolution.specs.Resolve.{memberAt}
-use Rattle.resolution.specs.Readability.{memberOf, isAt, isNamed, isRequired, requiredAt, directAt, transitiveAt, Members}
+use Rattle.resolution.specs.Readability.{memberOf, isNamed, isRequired, requiredAt, directAt, transitiveAt, Members}
 use Rattle.resolution.proofs.Closure.{closure-holds, closure-closed, closure-least}
 use Rattle.resolution.proofs.Edges.{transitive-in}
-use Rattle.resolution.proofs.Find.{find-mem, has-find, has-some, unique-of}
+use Rattle.resolution.proofs.Find.{find-mem, has-find, has-some}
 use Rattle.resolution.proofs.Lists.{any-in, any-out, flat-in, flat-out, keep-in, keep-out, map-in, map-out}
-use Rattle.resolution.proofs.Positions.{index-in, find-at, find-name, located, at-mem, index-at}
+use Rattle.resolution.proofs.Positions.{find-at, find-name, located, visible-located, visible-found, index-visible}
 
 some-same : {A : Type 0} (o : Option A) (a b : A) → o ≡ some a → o ≡ some b → a ≡ b
 some-same o a b p q = cc
@@ -41,24 +38,19 @@ each-way true b f g = sym (f refl)
 each-way false true f g = g refl
 each-way false false f g = refl
 
-module _ (s : List Descriptor) (d : distinct (names s) ≡ true) (ws : List ℕ) (ms : List Descriptor) (h : Members s ws ms) where
+module _ (s : List Descriptor) (ws : List ℕ) (ms : List Descriptor) (h : Members s ws ms) where
   -- ---- members
 
   abbrev pub nameOf : ℕ → Name
   nameOf j = moduleAt s j .name
 
-  pub member-out : (j : ℕ) → holds ws j ≡ true → (j < length s) × (hasModule ms (nameOf j) ≡ true)
+  pub member-out : (j : ℕ) → holds ws j ≡ true → (isVisible s j ≡ true) × (hasModule ms (nameOf j) ≡ true)
   unfolding memberAt
-  member-out j e =
-      let m : ltb j (length s) && hasModule ms (nameOf j) ≡ true = sym (h .each j) ∙ e in
-      (ltb-true j (length s) (and-left (ltb j (length s)) (hasModule ms (nameOf j)) m), and-right (ltb j (length s)) (hasModule ms (nameOf j)) m)
+  member-out j e = and-split (isVisible s j) (hasModule ms (nameOf j)) (sym (h .each j) ∙ e)
 
-  pub member-in : (j : ℕ) → j < length s → hasModule ms (nameOf j) ≡ true → holds ws j ≡ true
+  pub member-in : (j : ℕ) → isVisible s j ≡ true → hasModule ms (nameOf j) ≡ true → holds ws j ≡ true
   unfolding memberAt
-  member-in j l e = h .each j ∙ and-both (lt-ltb j (length s) l) e
-
-  own : (j : ℕ) → j < length s → find (nameOf j) s ≡ some (moduleAt s j)
-  own j l = unique-of s d (moduleAt s j) (at-mem s j l)
+  member-in j v e = h .each j ∙ and-both v e
 
   -- the member at j is found among those resolved
   pub member-is : (j : ℕ) → holds ws j ≡ true → find (nameOf j) ms ≡ some (moduleAt s j)
@@ -67,7 +59,7 @@ module _ (s : List Descriptor) (d : distinct (names s) ≡ true) (ws : List ℕ)
       let r = has-some (nameOf j) ms (o .1) in
       let m = find-mem (nameOf j) ms (r .0) (r .1) in
       let f : find (nameOf j) s ≡ some (r .0) = subst (λ (n : Name). find n s ≡ some (r .0)) (m .1) (h .sound (r .0) (m .0)) in
-      subst (λ (k : Descriptor). find (nameOf j) ms ≡ some k) (some-same (find (nameOf j) s) (r .0) (moduleAt s j) f (own j (o .0))) (r .1)
+      subst (λ (k : Descriptor). find (nameOf j) ms ≡ some k) (some-same (find (nameOf j) s) (r .0) (moduleAt s j) f (visible-found s j (o .0))) (r .1)
 
   -- and each of them stands at a position
   pub member-at : (n : Name) (m : Descriptor) → find n ms ≡ some m → (j : ℕ) × (holds ws j ≡ true) × (nameOf j ≡ n)
@@ -76,7 +68,7 @@ module _ (s : List Descriptor) (d : distinct (names s) ≡ true) (ws : List ℕ)
       let f : find n s ≡ some m = subst (λ (x : Name). find x s ≡ some m) (r .1) (h .sound m (r .0)) in
       let k : hasModule s n ≡ true = has-find n s m f in
       let q : nameOf (indexOf n s) ≡ n = find-mem n s (moduleAt s (indexOf n s)) (find-at n s k) .1 in
-      (indexOf n s, member-in (indexOf n s) (index-in n s k) (subst (λ (x : Name). hasModule ms x ≡ true) (sym q) (has-find n ms m e)), q)
+      (indexOf n s, member-in (indexOf n s) (index-visible n s k) (subst (λ (x : Name). hasModule ms x ≡ true) (sym q) (has-find n ms m e)), q)
 
   -- ---- names
 
@@ -98,9 +90,9 @@ module _ (s : List Descriptor) (d : distinct (names s) ≡ true) (ws : List ℕ)
   unfolding isNamed memberOf isAt
   named-own j e =
       let l = member-out j e .0 in
-      let k : hasModule s (nameOf j) ≡ true = has-find (nameOf j) s (moduleAt s j) (own j l) in
+      let k = visible-located s j l in
       let z : 0 + j ≡ j = omega arith in
-      rw (find-name (nameOf j) s 0, k, index-at s j d l, z, e) (eq-eqb j j refl)
+      rw (find-name (nameOf j) s 0, k .observable, k .index, z, e) (eq-eqb j j refl)
 
   pub named-in : (n : Name) (j : ℕ) → holds ws j ≡ true → nameOf j ≡ n → isNamed (names s) ws n j ≡ true
   named-in n j e q = subst (λ (x : Name). isNamed (names s) ws x j ≡ true) q (named-own j e)

@@ -30,7 +30,7 @@ use Rattle.resolution.specs.declared.resolver.Halt.the-variants as Halt
 use Rattle.resolution.specs.declared.resolver.Queue.{Queue}
 use Rattle.resolution.proofs.ResolverRun.{refusedWith, positions, answerOn, answerAt}
 use Rattle.resolution.proofs.ResolverWhole.{answerOf, Accepts, resolver-is, resolver-accepts}
-use Rattle.resolution.proofs.configure.Laws.{starts-room}
+use Rattle.resolution.proofs.Sets.{starts-room}
 use Rattle.records.proofs.request.Taken.{inputs-taken}
 
 -- ---- a set and a request that the check takes
@@ -82,7 +82,7 @@ module _ (s q : List ℕ) (n : ℕ) (t : List ℕ) (e : checkSet s ≡ record { 
         clash (cc)
     accepts r k c (done st) h =
         let a : Accepts s n (lineAt order queue) (st .resolved) = subst (λ (x : Line). Accepts s n x (st .resolved)) (sym l) (resolver-accepts s q n t e ws (p .each) st h) in
-        c .is (st .resolved) (a .modules-are) (a .within)
+        c .is (st .resolved) (a .modules-are) (a .visible)
 
     pub checked-open : (r : Declared.Resolution) → queue .halt ≡ Halt.Open → Configured s q n (take (queue .tail) order) r → r ≡ told s q (Resolution.resolve (modules s) (requestOf q))
     checked-open r k c = accepts r k c R refl

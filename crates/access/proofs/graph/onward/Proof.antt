@@ -9,7 +9,7 @@ onward-spec =
     (tie.spec
     (λ c κs. search (onward-is, needs))
     (λ c κs. search (onward-is, needs))
-    (λ c κs. search needs)
     (λ c κs. search (onward-is, needs))
-    (λ c κs. search needs)
+    (λ c κs. search (onward-is, needs))
+    (λ c κs. search (onward-is, needs))
     (λ c. search (onward-is, needs)))

@@ -17,6 +17,8 @@ readers-of-spec =
     (λ c κs. search (readers-of-laws, needs))
     (λ c. search (readers-of-laws, needs))
     (λ c κs. search (readers-of-laws, needs))
+    (λ c. search (readers-of-laws, needs))
+    (λ c κs. search (readers-of-laws, needs))
     (λ c κs. search (readers-of-laws, needs))
     (λ c. search (readers-of-laws, needs))
     (λ c. search (readers-of-laws, needs)))

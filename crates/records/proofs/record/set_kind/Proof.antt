@@ -17,4 +17,5 @@ set-kind-spec =
     (λ c. search (kind-at setKind, set-other, needs))
     (λ c. search (kind-at setKind, set-other, needs))
     (λ c. search (kind-at setKind, set-other, needs))
+    (λ c. search (kind-at setKind, set-other, needs))
     (λ c. search (kind-at setKind, set-other, needs)))

@@ -15,6 +15,8 @@ admit-spec =
     (λ c. search (admit-laws, needs))
     (λ c κs. search (admit-laws, needs))
     (λ c. search (admit-laws, needs))
+    (λ c κs. search (admit-laws, needs))
+    (λ c. search (admit-laws, needs))
     (λ c. search (admit-laws, needs))
     (λ c. search (admit-laws, needs))
     (λ c. search (admit-laws, needs)))

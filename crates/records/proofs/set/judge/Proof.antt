@@ -9,6 +9,7 @@ judge-spec =
     (tie.spec
     (λ c κs. search (judge-laws, needs))
     (λ c κs. search (judge-laws, needs))
+    (λ c. search (judge-laws, needs))
     (λ c κs. search (judge-laws, needs))
     (λ c κs. search (judge-laws, needs))
     (λ c κs. search (judge-laws, needs))

@@ -12,4 +12,7 @@ pass-spec =
     (λ c. search (pass-laws, needs))
     (λ c. search (pass-laws, needs))
     (λ c. search (pass-laws, needs))
+    (λ c. search (pass-laws, needs))
+    (λ c. search (pass-laws, needs))
+    (λ c. search (pass-laws, needs))
     (λ c. search (pass-laws, needs)))

@@ -5,10 +5,10 @@ use Rattle.resolution.proofs.configure.permitted.Statement.{statement}
 use Rattle.resolution.proofs.configure.permitted.Tie as tie
 
 abbrev Inv-loop : tie.InvT-loop
-Inv-loop set request starts count row₀ k₀ row k = PermittedAt set request count (row .words) k
+Inv-loop set request starts count index row₀ k₀ row k = PermittedAt set request count (row .words) k
 
 abbrev μ-loop : tie.MeasureT-loop
-μ-loop set request starts count row₀ k₀ row k = count - k
+μ-loop set request starts count index row₀ k₀ row k = count - k
 
 pub permitted-spec : {M : Type 1} → statement M
 permitted-spec =
@@ -19,11 +19,14 @@ permitted-spec =
     (λ c κs. search (permitted-laws, needs))
     (λ c. search (permitted-laws, needs))
     (λ c. search (permitted-laws, needs))
+    (λ c κs. search (permitted-laws, needs))
     (λ c. search (permitted-laws, needs))
     (λ c. search (permitted-laws, needs))
     (λ c κs. search (permitted-laws, needs))
     (λ c κs. search (permitted-laws, needs))
     (λ c κs. search (permitted-laws, needs))
+    (λ c. search (permitted-laws, needs))
+    (λ c. search (permitted-laws, needs))
     (λ c. search (permitted-laws, needs))
     (λ c. search (permitted-laws, needs))
     (λ c. search (permitted-laws, needs))

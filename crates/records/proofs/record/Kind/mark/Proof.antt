@@ -36,4 +36,6 @@ mark-spec =
     (λ c. search (mark-told, needs))
     (λ c. search (mark-told, needs))
     (λ c. search (mark-told, needs))
+    (λ c. search (mark-told, needs))
+    (λ c. search (mark-told, needs))
     (λ c. search (mark-told, needs)))

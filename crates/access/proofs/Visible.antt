@@ -1,0 +1,125 @@
+-- A set that the check takes gives with a request what its visible blocks give, one after the other.
+use mathlib.Core.Path.{_≡_, refl, sym, ap, _∙_, subst}
+use Prim.Native.Nat.{ℕ}
+use mathlib.Core.Bool.{Bool, _||_}
+use mathlib.Core.Option.{Option}
+use mathlib.Core.List.{List, map, flatten}
+use Rattle.records.specs.Bytes.{sameBytes}
+use Rattle.records.specs.Descriptor.{Descriptor, descriptorOf}
+use Rattle.records.specs.Finder.{visibleBlocks}
+use Rattle.records.specs.Name.{javaBase}
+use Rattle.records.specs.Request.{Request, requestOf, checkInputs}
+use Rattle.records.specs.Set.{modules}
+use Rattle.records.specs.declared.set.SetAnswer.{SetAnswer}
+use Rattle.records.specs.declared.set.SetAnswer.the-variants as Set
+use Rattle.records.proofs.request.Taken.{inputs-taken, inputs-over}
+use Rattle.records.proofs.set.Blocks.{good-set}
+use Rattle.records.proofs.set.Visible.{VisibleSet, visible-set}
+use Rattle.resolution.specs.Lists.{Name, Mem}
+use Rattle.resolution.specs.Loop.{Result, done}
+use Rattle.resolution.specs.Resolution.{Refusal, State, observable}
+use Rattle.resolution.specs.Resolution as Resolution
+use Rattle.resolution.specs.Resolve.{told, answered, resolve}
+use Rattle.resolution.specs.declared.configuration.Configuration.{Configuration}
+use Rattle.resolution.proofs.SameResolution.{visible-done, done-visible}
+use Rattle.resolution.proofs.Sets.{blocks-observable}
+use Rattle.access.specs.Access.{readsName, resolvedModule, namedVerdict, unnamedVerdict, verdict, checkAccess}
+use Rattle.access.specs.Demand3.{IsAccepted, configuration, Grows}
+use Rattle.access.specs.Members.{verdictBy}
+use Rattle.access.specs.Visible.{SameByNames}
+use Rattle.access.specs.declared.access.AccessAnswer.the-variants.{Verdict}
+use Rattle.access.specs.declared.access.AccessCheckResult.{AccessCheckResult}
+use Rattle.access.proofs.Demand3.{all-kept}
+use Rattle.access.proofs.Names.{Done, accepted-out, done-named}
+use Rattle.access.proofs.Verdicts.{answer-is}
+
+accepted-in : (s q : List ℕ) → Done s q → IsAccepted s q
+unfolding resolve answered told
+accepted-in s q d = ap (λ (a : SetAnswer). answered s q a .outcome) (d .taken) ∙ ap (λ (r : Result State Refusal). told s q r .outcome) (d .finished)
+
+-- a verdict looks at whether the asker reads the target, and at the target where it is resolved
+pub verdict-is : (reflection : Bool) (s : List ℕ) (rq : Request) (c : Configuration) (asker target p : Name)
+    → verdict reflection s rq c asker target p ≡ verdictBy reflection rq (resolvedModule s c target) (readsName s c asker target || sameBytes target javaBase) asker target p
+unfolding verdict namedVerdict unnamedVerdict verdictBy
+verdict-is reflection s rq c asker target p = refl
+
+module _ (s q : List ℕ) (n : ℕ) (h : checkInputs s q .answer ≡ Set.Modules n) where
+  abbrev v : List ℕ
+  v = flatten (visibleBlocks s)
+
+  set-of : VisibleSet s v
+  set-of = visible-set s n (checkInputs s q .starts) (inputs-taken s q n (checkInputs s q) refl h)
+
+  modules-are : modules v ≡ observable (modules s)
+  unfolding modules
+  modules-are = ap (map descriptorOf) (set-of .blocks-are) ∙ blocks-observable s
+
+  resolved : Resolution.resolve (modules v) (requestOf q) ≡ Resolution.resolve (observable (modules s)) (requestOf q)
+  resolved = ap (λ (m : List Descriptor). Resolution.resolve m (requestOf q)) modules-are
+
+  -- one is done where the other is, with the same modules resolved
+  over : Done s q → Done v q
+  over d = record {
+    count = set-of .count;
+    state = d .state;
+    taken = inputs-over s q n h v (set-of .count) (set-of .starts) (good-set v (set-of .count) (set-of .starts) (set-of .taken) .short) (set-of .taken);
+    finished = resolved ∙ visible-done (modules s) (requestOf q) (d .state) (d .finished);
+  }
+
+  back : Done v q → Done s q
+  back d = record { count = n; state = d .state; taken = h; finished = done-visible (modules s) (requestOf q) (d .state) (sym resolved ∙ d .finished) }
+
+  -- each grows to the other
+  grows : Grows s q v q
+  grows = record {
+    modules = λ b m. subst (λ (l : List (List ℕ)). Mem b l) (sym (set-of .visible-are)) m;
+    roots = λ x m. m;
+    permitted = λ x m. m;
+    addReads = λ x m. m;
+    addExports = λ x m. m;
+    addOpens = λ x m. m;
+  }
+
+  grows-back : Grows v q s q
+  grows-back = record {
+    modules = λ b m. subst (λ (l : List (List ℕ)). Mem b l) (set-of .visible-are) m;
+    roots = λ x m. m;
+    permitted = λ x m. m;
+    addReads = λ x m. m;
+    addExports = λ x m. m;
+    addOpens = λ x m. m;
+  }
+
+  module _ (d : Done s q) where
+    same-reads : (x y : Name) → readsName s (configuration s q) x y ≡ readsName v (configuration v q) x y
+    unfolding over
+    same-reads x y = done-named s q d .read x y ∙ sym (done-named v q (over d) .read x y)
+
+    same-module : (x : Name) → resolvedModule s (configuration s q) x ≡ resolvedModule v (configuration v q) x
+    unfolding over
+    same-module x = done-named s q d .module-of x ∙ sym (done-named v q (over d) .module-of x)
+
+    same-verdict : (reflection : Bool) (asker target p : Name)
+        → checkAccess reflection s q (configuration s q) asker target p ≡ checkAccess reflection v q (configuration v q) asker target p
+    same-verdict reflection asker target p =
+        answer-is reflection s q (d .count) (d .taken) (configuration s q) asker target p
+        ∙ ap Verdict (verdict-is reflection s (requestOf q) (configuration s q) asker target p
+        ∙ ap (λ (m : Option Descriptor). by-both m (readsName s (configuration s q) asker target)) (same-module target)
+        ∙ ap (by-both (resolvedModule v (configuration v q) target)) (same-reads asker target)
+        ∙ sym (verdict-is reflection v (requestOf q) (configuration v q) asker target p))
+        ∙ sym (answer-is reflection v q (over d .count) (over d .taken) (configuration v q) asker target p)
+      where
+        by-both : Option Descriptor → Bool → AccessCheckResult
+        by-both m r = verdictBy reflection (requestOf q) m (r || sameBytes target javaBase) asker target p
+
+  pub visible-same : SameByNames s v q
+  unfolding over
+  visible-same = record {
+    accepted = λ a. accepted-in v q (over (accepted-out s q a));
+    accepted-back = λ a. accepted-in s q (back (accepted-out v q a));
+    members = λ a x. let d = accepted-out s q a in done-named s q d .member x ∙ sym (done-named v q (over d) .member x);
+    reads = λ a. same-reads (accepted-out s q a);
+    owners = λ a. let d = accepted-out s q a in all-kept s q v q d (over d) grows .owners;
+    owners-back = λ a. let d = accepted-out s q a in all-kept v q s q (over d) d grows-back .owners;
+    verdicts = λ a. same-verdict (accepted-out s q a);
+  }

@@ -1,0 +1,39 @@
+-- Whatever is given a set reads a configuration by the three tests of the crate `resolution` (`Observed`) alone: over any
+-- configuration a position whose module is hidden counts as one without a module.
+use mathlib.Core.Path.{_≡_}
+use mathlib.Core.Bool.{Bool, true}
+use mathlib.Core.List.{List}
+use Prim.Native.Nat.{ℕ}
+use Rattle.records.specs.Set.{modules}
+use Rattle.resolution.specs.Graph.{edge}
+use Rattle.resolution.specs.Lists.{Name}
+use Rattle.resolution.specs.Observed.{hasMember, hasEdge, hasUnnamedEdge}
+use Rattle.resolution.specs.PackageOwner.{findModuleForPackage}
+use Rattle.resolution.specs.Positions.{isVisible}
+use Rattle.resolution.specs.Row.{holds}
+use Rattle.resolution.specs.declared.configuration.Configuration.{Configuration}
+use Rattle.access.specs.Access.{checkAccess}
+use Rattle.access.specs.CanRead.{canRead}
+use Rattle.access.specs.ReadGraph.{readersOf, TransitiveReads}
+use Rattle.access.specs.declared.graph.GraphAnswer.{GraphAnswer}
+
+-- the three tests say the same of both, at every position
+pub record Agree (s : List ℕ) (c₁ c₂ : Configuration) : Type 0 where
+  pub members : (i : ℕ) → hasMember (modules s) c₁ i ≡ hasMember (modules s) c₂ i
+  pub edges : (i j : ℕ) → hasEdge (modules s) c₁ i j ≡ hasEdge (modules s) c₂ i j
+  pub unnamed : (i : ℕ) → hasUnnamedEdge (modules s) c₁ i ≡ hasUnnamedEdge (modules s) c₂ i
+
+-- the words of both have the same bits where modules stand that are not hidden; at hidden ones, and past the modules, any bits
+pub record SameVisibleBits (s : List ℕ) (c₁ c₂ : Configuration) : Type 0 where
+  pub members : (i : ℕ) → isVisible (modules s) i ≡ true → holds (c₁ .members) i ≡ holds (c₂ .members) i
+  pub edges : (i j : ℕ) → isVisible (modules s) i ≡ true → isVisible (modules s) j ≡ true → edge (c₁ .reads) i j ≡ edge (c₂ .reads) i j
+  pub unnamed : (i : ℕ) → isVisible (modules s) i ≡ true → holds (c₁ .unnamed) i ≡ holds (c₂ .unnamed) i
+
+-- every question has the same answer over both
+pub record SameAnswers (s : List ℕ) (c₁ c₂ : Configuration) : Type 0 where
+  pub verdicts : (reflection : Bool) (q : List ℕ) (asker target p : Name)
+      → checkAccess reflection s q c₁ asker target p ≡ checkAccess reflection s q c₂ asker target p
+  pub can-read : (x y : Name) → canRead s c₁ x y ≡ canRead s c₂ x y
+  pub readers : (y : Name) → readersOf s c₁ y ≡ readersOf s c₂ y
+  pub owners : (p : Name) → findModuleForPackage s c₁ p ≡ findModuleForPackage s c₂ p
+  pub transitive : (x : Name) (r : GraphAnswer) → TransitiveReads s c₁ x r → TransitiveReads s c₂ x r
