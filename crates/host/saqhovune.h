@@ -1,5 +1,9 @@
 /* The C functions of the crate host: `rt staticlib host` writes target/staticlib/libhost.a with them.
  *
+ * A set may have up to eight places, each begun by a record PL with an empty body; records before the first PL are the first
+ * place. Of modules of one name, which stand in different places, the first from the front counts and hides the others. Positions
+ * count all modules of the set from 0, hidden ones too; a hidden module is checked like others, and is never a member.
+ *
  * A slice is a pointer and a length. Every pointer is not null and is aligned, also that of a slice of length 0. What is written,
  * row and particulars included, overlaps no other argument.
  *
@@ -10,8 +14,8 @@
  * particulars, unused ones as 0:
  *   0   what the function answers
  *   1   which input is malformed (0 set, 1 request, 2 package records), the offset of the record
- *   2   the offset of the record, or 0
- *   3   the offset of the record
+ *   2   the offset of the record (the 257th module, hidden ones counted, or the PL of the ninth place), or 0
+ *   3   the offset of the record (a module whose name stands before in its place, or is ALL-UNNAMED)
  *   4   how many bytes or words are needed
  *   5   which input has the absent name (0 set, 1 request), where it starts, its length
  *   6   nothing
@@ -21,8 +25,9 @@
  * Nothing but the particulars is written on a refusal.
  *
  * A configuration is 1,032 words: 4 of members, 1,024 of read edges, four words for each position, and 4 of the modules that read
- * ALL-UNNAMED. The bit of position i is bit i % 64 of word i / 64. Words past the first 1,032 are neither read nor written. Where
- * a function takes them to read, fewer are number 4 before anything else is looked at.
+ * ALL-UNNAMED. The bit of position i is bit i % 64 of word i / 64. Bits at positions of hidden modules are ignored where words
+ * are read, as are those at positions past the last module, and are 0 in what saqhovune_resolve writes. Words past the first 1,032
+ * are neither read nor written. Where a function takes them to read, fewer are number 4 before anything else is looked at.
  */
 #ifndef SAQHOVUNE_H
 #define SAQHOVUNE_H
@@ -37,7 +42,7 @@
 extern "C" {
 #endif
 
-/* Checks a set and a request (1 to 3). Answers the number of modules. */
+/* Checks a set and a request (1 to 3). Answers the number of modules, hidden ones too. */
 uint64_t saqhovune_check(const uint8_t *set, size_t set_len, const uint8_t *request, size_t request_len,
                          uint64_t particulars[4]);
 

@@ -19,7 +19,8 @@ fn count(words: &[u64]) -> usize {
 }
 
 /// The members, whom each of them reads, and who reads the unnamed module. A module is told by its position in the set; a
-/// position past 255 is in no configuration.
+/// position past 255 is in no configuration. What was resolved has no bit at the position of a hidden module, and calls that take
+/// a configuration ignore such bits.
 #[derive(Clone, Debug, PartialEq, Eq)]
 pub struct Configuration {
     words: Box<[u64; WORDS]>,

@@ -1,8 +1,10 @@
 //! The byte form of sets and requests: records to write, and a walk over those of an input.
 //!
-//! A set is the concatenation of [`module`] records, each with the records that belong to it; a request is that of its
-//! records. Nothing is checked here but lengths; [`crate::check`] does that. A name over 255 bytes, a list of over 65,535 names or
-//! a body of over 65,535 bytes panics.
+//! A set is the concatenation of [`module`] records, each with the records that belong to it, and of [`place`] records between
+//! them, first or last; a request is that of its records. Nothing is checked here but lengths; [`crate::check`] does that. A
+//! name over 255 bytes, a list of over 65,535 names or a body of over 65,535 bytes panics.
+use std::collections::hash_map::{Entry, HashMap};
+use std::fmt;
 
 /// A requirement that is read by whoever reads its module.
 pub const TRANSITIVE: u16 = 0x0020;
@@ -48,6 +50,12 @@ pub fn module_with(n: &str, flags: u16, automatic: bool, version: &str) -> Vec<u
 /// A module that is neither open nor automatic, without version.
 pub fn module(n: &str) -> Vec<u8> {
     module_with(n, 0, false, "")
+}
+
+/// The start of a place (PL): the modules behind it, up to the next one, are in that place. Modules before the first are in a
+/// place of their own, in front. Of modules of one name the first is the one that counts; it hides those in later places.
+pub fn place() -> Vec<u8> {
+    record(b"PL", &[])
 }
 
 /// A requirement (RQ); an empty version is none.
@@ -148,7 +156,55 @@ pub(crate) fn name_of<'a>(record: &Record<'a>) -> Option<&'a [u8]> {
     }
 }
 
-/// The names of a set's modules, in the order of their positions.
+/// Whether a record is the first of a place: a PL, or whatever the set starts with.
+pub(crate) fn starts_place(record: &Record) -> bool {
+    record.mark == b"PL" || record.offset == 0
+}
+
+/// A module of a set. As text it is "page.foot of place 1" or, where it is hidden, "page.foot of place 2 is hidden by place 1".
+#[derive(Clone, Copy, Debug, PartialEq, Eq)]
+pub struct Module<'a> {
+    /// Its position, from 0; hidden modules have one too.
+    pub position: usize,
+    /// Its place, from 1.
+    pub place: usize,
+    /// Its name.
+    pub name: &'a [u8],
+    /// The place of the first module of this name, if this one comes later and so is hidden: it is checked and nothing else.
+    pub hidden_by: Option<usize>,
+}
+
+impl fmt::Display for Module<'_> {
+    fn fmt(&self, f: &mut fmt::Formatter<'_>) -> fmt::Result {
+        write!(f, "{} of place {}", String::from_utf8_lossy(self.name), self.place)?;
+        match self.hidden_by {
+            Some(place) => write!(f, " is hidden by place {place}"),
+            None => Ok(()),
+        }
+    }
+}
+
+/// The modules of a set that the check takes, hidden ones too, in the order of their positions.
+pub fn modules(set: &[u8]) -> impl Iterator<Item = Module<'_>> {
+    let mut first_place = HashMap::new();
+    let mut place = 0;
+    let named = records(set).filter_map(move |r| {
+        place += usize::from(starts_place(&r));
+        Some((place, name_of(&r)?))
+    });
+    named.enumerate().map(move |(position, (place, name))| {
+        let hidden_by = match first_place.entry(name) {
+            Entry::Occupied(first) => Some(*first.get()),
+            Entry::Vacant(first) => {
+                first.insert(place);
+                None
+            }
+        };
+        Module { position, place, name, hidden_by }
+    })
+}
+
+/// The names of a set's modules, hidden ones too, in the order of their positions.
 pub fn module_names(set: &[u8]) -> impl Iterator<Item = &[u8]> {
     records(set).filter_map(|r| name_of(&r))
 }

@@ -19,6 +19,20 @@
 //! let may = saqhovune::check_access(&set, &request, &resolved.configuration, b"page.foot", b"page.frames", b"page/frame");
 //! assert_eq!((resolved.count, may), (3, Ok(saqhovune::Verdict::Allowed)));
 //! ```
+//!
+//! A set may have up to eight places, as folders that hide one another: [`form::place`] starts one, and of modules of one name
+//! the first counts. A hidden module has a position and is never a member; [`form::modules`] tells which are hidden.
+//!
+//! ```
+//! use saqhovune::form::{module, modules, package, place, root};
+//! let shop = [module("page.foot"), package("shop/foot")].concat();
+//! let ours = [module("java.base"), module("page.foot"), package("page/foot")].concat();
+//! let (set, request) = ([shop, place(), ours].concat(), root("page.foot"));
+//! let resolved = saqhovune::resolve(&set, &request).unwrap_or_else(|e| panic!("{}", e.message(&set, &request)));
+//! assert_eq!(resolved.configuration.members().collect::<Vec<_>>(), [0, 1]);
+//! assert_eq!(modules(&set).nth(2).unwrap().hidden_by, Some(1));
+//! assert_eq!(saqhovune::hidden_messages(&set).collect::<Vec<_>>(), ["page.foot of place 2 is hidden by place 1"]);
+//! ```
 #![warn(missing_docs)]
 
 mod access;
@@ -34,6 +48,7 @@ mod resolve;
 pub use access::{can_read, check_access, check_reflection_access, find_module_for_package, Verdict};
 pub use configuration::{Configuration, Row, WORDS};
 pub use graph::{readers_of, transitive_reads};
+pub use message::hidden_messages;
 pub use reader::{automatic_from_jar_name, automatic_from_jar_name_vec, from_class_file, from_class_file_vec};
 pub use refusal::{Input, Refusal};
 pub use resolve::{check, resolve, resolve_into, Resolved};

@@ -33,12 +33,12 @@ pub enum Refusal {
         /// The offset of the record.
         offset: usize,
     },
-    /// 2: an input, or a record to be written, is too long, or the set has more than 256 modules.
+    /// 2: an input, or a record to be written, is too long, or the set has more than 256 modules or more than eight places.
     TooLarge {
-        /// The offset of the 257th module, else 0.
+        /// The offset of the 257th module, hidden ones counted, or of the PL of the ninth place, else 0.
         offset: usize,
     },
-    /// 3: a module has the name of an earlier one, or ALL-UNNAMED.
+    /// 3: a module has the name of an earlier one in its place, or ALL-UNNAMED.
     Repeated {
         /// The offset of its record in the set.
         offset: usize,
@@ -143,10 +143,10 @@ impl fmt::Display for Refusal {
                 write!(f, "an input or a record to be written is longer than 65,535 bytes, or a jar name is longer than 255")
             }
             Refusal::TooLarge { offset } => {
-                write!(f, "module 257 at offset {offset}: a set has at most 256 modules")
+                write!(f, "module 257 or place 9 at offset {offset}: a set has at most 256 modules and eight places")
             }
             Refusal::Repeated { offset } => {
-                write!(f, "the module at offset {offset} of the set has the name of an earlier one, or ALL-UNNAMED")
+                write!(f, "the module at offset {offset} of the set has the name of an earlier one in its place, or ALL-UNNAMED")
             }
             Refusal::OutputTooShort { needed } => {
                 write!(f, "the output is too short: {needed} bytes, or words of a configuration, are needed")

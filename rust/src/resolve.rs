@@ -12,7 +12,7 @@ pub struct Resolved {
     pub count: usize,
 }
 
-/// Checks a set and a request (1 to 3). The answer is the number of modules in the set.
+/// Checks a set and a request (1 to 3). The answer is the number of modules in the set, hidden ones too.
 pub fn check(set: &[u8], request: &[u8]) -> Result<usize, Refusal> {
     // SAFETY: each pointer is that of a slice with the length beside it, and the particulars have four words.
     let answer = told(|particulars| unsafe {

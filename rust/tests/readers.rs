@@ -118,9 +118,11 @@ fn jars_refused() {
     refused(Refusal::InvalidModuleName, 10, message, jar(b"a.jar", Some(b"")));
     refused(Refusal::TooLarge { offset: 0 }, 2, TOO_LARGE, jar(&[b'a'; 256], Some(b"a")));
     assert!(automatic_from_jar_name_vec(&[b'a'; 255], None, &[]).is_ok());
-    let packages = [package("p"), module("a")].concat();
-    let refusal = Refusal::Malformed { input: Input::Packages, offset: 6 };
-    refused(refusal, 1, "the package record at offset 6 is malformed", |out| {
-        automatic_from_jar_name(b"a.jar", None, &packages, out)
-    });
+    for other in [module("a"), place()] {
+        let packages = [package("p"), other].concat();
+        let refusal = Refusal::Malformed { input: Input::Packages, offset: 6 };
+        refused(refusal, 1, "the package record at offset 6 is malformed", |out| {
+            automatic_from_jar_name(b"a.jar", None, &packages, out)
+        });
+    }
 }

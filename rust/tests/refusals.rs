@@ -21,6 +21,12 @@ fn is(set: &[u8], request: &[u8], refusal: Refusal, number: u8, message: &str) {
         assert_eq!(check(set, request), Err(refusal));
         assert_eq!(check_access(set, request, &c, b"a", b"a", b"p"), Err(refusal));
         assert_eq!(check_reflection_access(set, request, &c, b"a", b"a", b"p"), Err(refusal));
+        if check(set, &[]) == Err(refusal) {
+            assert_eq!(can_read(set, &c, b"a", b"a"), Err(refusal));
+            assert_eq!(find_module_for_package(set, &c, b"p"), Err(refusal));
+            assert_eq!(readers_of(set, &c, b"a"), Err(refusal));
+            assert_eq!(transitive_reads(set, &c, b"a"), Err(refusal));
+        }
     }
 }
 
@@ -54,6 +60,74 @@ fn too_large() {
     is(&set, &[], Refusal::TooLarge { offset: many.len() }, 2, &message);
 }
 
+/// Modules in the second place, with the names of some before, count too.
+#[test]
+fn hidden_modules_count() {
+    let numbered = |i: usize| module(&format!("m{i}"));
+    let good: Vec<u8> = [(0..200).flat_map(numbered).collect(), place(), (0..56).flat_map(numbered).collect()].concat();
+    assert_eq!(check(&good, &[]), Ok(256));
+    for last in [56, 300, 55] {
+        let set = [good.clone(), numbered(last)].concat();
+        let message = format!("module 257 at offset {}: a set has at most 256 modules", good.len());
+        is(&set, &[], Refusal::TooLarge { offset: good.len() }, 2, &message);
+    }
+}
+
+#[test]
+fn ninth_place() {
+    let message = "the set has more than eight places, the ninth at offset 32";
+    let eight = place().repeat(8);
+    assert_eq!(check(&eight, &[]), Ok(0));
+    is(&place().repeat(9), &[], Refusal::TooLarge { offset: 32 }, 2, message);
+    is(&[eight.clone(), record(b"PL", b"\0")].concat(), &[], malformed_at(32), 1, "the set's record at offset 32 is malformed");
+
+    let first = [base(), place().repeat(7)].concat();
+    assert_eq!(check(&first, &[]), Ok(1));
+    let set = [first, place(), base(), base()].concat();
+    is(&set, &[], Refusal::TooLarge { offset: 46 }, 2, "the set has more than eight places, the ninth at offset 46");
+}
+
+fn malformed_at(offset: usize) -> Refusal {
+    Refusal::Malformed { input: Input::Set, offset }
+}
+
+/// Behind PL only MO, PL and the end; and no body.
+#[test]
+fn malformed_places() {
+    let of_module =
+        [requires("a", 0), exports("p", &[]), opens("p", &[]), uses("s"), provides("s", &[]), package("p"), main_class("M")];
+    let others = [root("a"), limit(&[]), record(b"XX", b""), b"PL".to_vec(), b"PL\0".to_vec(), b"MO\0\x01".to_vec()];
+    let bodies = [record(b"PL", b"\0"), record(b"PL", &name("a")), b"PL\0\x01".to_vec(), b"pl\0\0".to_vec()];
+    for start in [vec![], base(), [base(), package("p"), place(), module("a")].concat()] {
+        let good = [start.clone(), place()].concat();
+        assert!(check(&good, &[]).is_ok());
+        for fault in of_module.iter().chain(&others).chain(&bodies) {
+            let message = format!("the set's record at offset {} is malformed", good.len());
+            is(&[&good[..], fault].concat(), &[], malformed_at(good.len()), 1, &message);
+        }
+        for fault in &bodies {
+            let message = format!("the set's record at offset {} is malformed", start.len());
+            is(&[&start[..], fault].concat(), &[], malformed_at(start.len()), 1, &message);
+        }
+    }
+    let request = [root("a"), place()].concat();
+    let refusal = Refusal::Malformed { input: Input::Request, offset: 6 };
+    is(&base(), &request, refusal, 1, "the request's record at offset 6 is malformed");
+}
+
+#[test]
+fn repeated_in_a_place() {
+    let set = [module("a"), place(), module("a"), module("a")].concat();
+    is(&set, &[], Refusal::Repeated { offset: 24 }, 3, "module a is in place 2 twice, the second time at offset 24");
+    let set = [place(), module("a"), module("a"), place()].concat();
+    is(&set, &[], Refusal::Repeated { offset: 14 }, 3, "module a is in place 1 twice, the second time at offset 14");
+    assert_eq!(check(&[module("a"), place(), module("b"), place(), module("a")].concat(), &[]), Ok(3));
+
+    let set = [base(), place(), module("ALL-UNNAMED")].concat();
+    let message = "the module at offset 22 of the set has the name ALL-UNNAMED, which no module may have";
+    is(&set, &[], Refusal::Repeated { offset: 22 }, 3, message);
+}
+
 #[test]
 fn repeated() {
     let set = [base(), module("a"), module("a")].concat();
@@ -79,6 +153,26 @@ fn absent() {
     is(&set, &root("page.foot"), refusal, 5, message);
 }
 
+/// Where the set has several places the message tells which has the module.
+#[test]
+fn absent_and_split_of_places() {
+    let foot = [module("page.foot"), requires("page.frames", 0)].concat();
+    let front = [base(), place()].concat();
+    let set = [front.clone(), foot.clone(), place(), module("page.foot")].concat();
+    let refusal = Refusal::ModuleNotFound { input: Input::Set, start: front.len() + module("page.foot").len() + 7, len: 11 };
+    let message = "module page.foot of place 2 requires page.frames, which is not in the set";
+    is(&set, &root("page.foot"), refusal, 5, message);
+    let set = [place(), base(), foot].concat();
+    let refusal = Refusal::ModuleNotFound { input: Input::Set, start: front.len() + module("page.foot").len() + 7, len: 11 };
+    is(&set, &root("page.foot"), refusal, 5, "module page.foot requires page.frames, which is not in the set");
+
+    let hidden = [module("a"), package("p")].concat();
+    let set = [base(), hidden.clone(), place(), hidden, module("b"), package("p")].concat();
+    let refusal = Refusal::SplitPackage { start: set.len() - 1, len: 1, owner: 1, second: 3 };
+    let message = "modules a of place 1 and b of place 2 both have package p";
+    is(&set, &[root("a"), root("b")].concat(), refusal, 7, message);
+}
+
 #[test]
 fn java_base() {
     is(&[], &[], Refusal::JavaBaseNotFound, 6, "module java.base is not in the set");
@@ -97,6 +191,7 @@ fn split() {
 #[test]
 fn other_inputs() {
     let refusals = [
+        Refusal::TooLarge { offset: 3 },
         Refusal::Repeated { offset: 3 },
         Refusal::ModuleNotFound { input: Input::Set, start: usize::MAX, len: 2 },
         Refusal::ModuleNotFound { input: Input::Request, start: 1, len: usize::MAX },
@@ -107,6 +202,14 @@ fn other_inputs() {
             assert_eq!(refusal.message(set, b""), refusal.to_string());
         }
     }
+}
+
+/// That of a reader is not taken for one of the set that is passed.
+#[test]
+fn too_large_without_a_place() {
+    let refusal = Refusal::TooLarge { offset: 0 };
+    assert_eq!(refusal.message(&base(), &[]), refusal.to_string());
+    assert_eq!(refusal.message(&place(), &[]), refusal.to_string());
 }
 
 #[test]
