@@ -6,7 +6,7 @@ use std::fs;
 use std::path::{Path, PathBuf};
 use std::process::exit;
 
-const FILES: [&str; 6] = ["access", "descriptor", "error", "graph", "reference", "resolution"];
+const FILES: [&str; 7] = ["access", "descriptor", "error", "finder", "graph", "reference", "resolution"];
 
 fn main() {
     println!("cargo:rerun-if-env-changed=ORIGINAL");

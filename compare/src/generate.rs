@@ -54,7 +54,7 @@ fn strings(from: &[String]) -> Vec<&str> {
     from.iter().map(String::as_str).collect()
 }
 
-/// A system of 2 to 12 modules, one in forty of 13 to 256. It is never longer than a set may be.
+/// A system of 2 to 12 module names, one in forty of 13 to 256, in half of them in places. It is never longer than a set may be.
 pub fn system(r: &mut Random) -> System {
     loop {
         let n = if r.below(40) == 0 { r.within(13, 256) } else { r.within(2, 12) };
@@ -82,6 +82,36 @@ fn system_of(r: &mut Random, n: usize) -> System {
     s
 }
 
+/// The modules of a set by the index of their names, and None where a place starts. Each name stands in one place; some stand in
+/// others too, and there the first hides the rest. There are at most 256 modules in all.
+fn placed(r: &mut Random, n: usize) -> Vec<Option<usize>> {
+    if r.chance(50) {
+        return (0..n).map(Some).collect();
+    }
+    let mut places = vec![Vec::new(); r.within(1, 8)];
+    for i in 0..n {
+        let k = r.below(places.len());
+        places[k].push(i);
+    }
+    let again = *r.choose(&[0, 5, 20, 50]); // of 100 names, in each other place
+    let mut room = 256 - n;
+    let mut all = Vec::new();
+    for (k, place) in places.iter_mut().enumerate() {
+        for i in 0..n {
+            if room > 0 && r.chance(again) && !place.contains(&i) {
+                place.push(i);
+                room -= 1;
+            }
+        }
+        r.shuffle(place);
+        if k > 0 || r.chance(50) {
+            all.push(None);
+        }
+        all.extend(place.iter().copied().map(Some));
+    }
+    all
+}
+
 fn modules(r: &mut Random, s: &mut System) {
     let n = s.names.len();
     let absent = *r.choose(&[0, 0, 0, 2, 10, 30]); // of 100 requirements
@@ -94,10 +124,14 @@ fn modules(r: &mut Random, s: &mut System) {
     let chain = r.chance(30); // several rounds of services
     let services = *r.choose(&[1, 2, 4, 6, n, n]);
     let service = |i: usize| format!("s/{}", i % services);
-    let mut places: Vec<usize> = (0..n).collect();
-    r.shuffle(&mut places);
+    let mut chained: Vec<usize> = (0..n).collect();
+    r.shuffle(&mut chained);
     let mut packages: BTreeSet<String> = SHARED.iter().map(|p| p.to_string()).collect();
-    for (i, place) in places.into_iter().enumerate() {
+    for i in placed(r, n) {
+        let Some(i) = i else {
+            s.set.extend(place());
+            continue;
+        };
         let own_name = s.names[i].clone();
         let mut body = Vec::new();
         for _ in 0..r.count(if chain { dense / 8 } else { dense }) {
@@ -119,10 +153,10 @@ fn modules(r: &mut Random, s: &mut System) {
         }
         if chain {
             if r.chance(95) {
-                body.push(uses(&service(place + 1)));
+                body.push(uses(&service(chained[i] + 1)));
             }
             if r.chance(95) {
-                body.push(provides(&service(place), &["i/a", "i/b"][..r.below(3)]));
+                body.push(provides(&service(chained[i]), &["i/a", "i/b"][..r.below(3)]));
             }
         }
         for _ in 0..r.count(if chain { 10 } else { 50 }) {

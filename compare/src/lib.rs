@@ -2,6 +2,7 @@
 //! inputs for it and for the library.
 pub mod answers;
 pub mod class;
+pub mod finder;
 pub mod generate;
 pub mod generate_class;
 pub mod module;

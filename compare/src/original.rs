@@ -1,14 +1,15 @@
 //! The original's answers, for the library's inputs.
+use crate::finder::chain;
 use crate::module::descriptor::ModuleDescriptor;
 use crate::module::error::ModuleError;
-use crate::module::finder::SetFinder;
+use crate::module::finder::ModuleFinder;
 use crate::module::reference::ModuleReference;
 use crate::module::resolution::{ResolvedConfiguration, ResolvedModule, Resolver};
 use crate::records::{Request, text, write_descriptor};
 use saqhovune::Configuration;
 use std::collections::{BTreeMap, BTreeSet};
 
-/// A set and a request as the original has them.
+/// A set and a request as the original has them: the modules by their positions, hidden ones too.
 pub struct Inputs {
     pub modules: Vec<ModuleReference>,
     pub request: Request,
@@ -34,7 +35,7 @@ impl Inputs {
     }
 
     pub fn resolve(&self) -> Result<ResolvedConfiguration, ModuleError> {
-        self.resolver().resolve(&self.request.roots, &SetFinder { modules: self.modules.clone() })
+        self.resolver().resolve(&self.request.roots, &chain(&self.modules))
     }
 
     /// The resolution without services, and so without rounds.
@@ -42,14 +43,32 @@ impl Inputs {
         let modules = self.modules.iter().map(|m| {
             let mut d = m.descriptor().clone();
             d.uses.clear();
-            ModuleReference::new(d, m.source().clone(), None)
+            ModuleReference::new(d, m.source().clone(), m.location().cloned())
         });
-        self.resolver().resolve(&self.request.roots, &SetFinder { modules: modules.collect() })
+        self.resolver().resolve(&self.request.roots, &chain(&modules.collect::<Vec<_>>()))
     }
 
-    /// The position of a module.
+    /// Of each position, whether the original's chain has its module; else that is hidden.
+    pub fn observable(&self) -> Vec<bool> {
+        let mut found = chain(&self.modules).find_all().into_iter().peekable();
+        let is = |m: &ModuleReference, f: &ModuleReference| f.name() == m.name() && f.location() == m.location();
+        let observable = self.modules.iter().map(|m| found.next_if(|f| is(m, f)).is_some()).collect();
+        assert!(found.next().is_none(), "the chain has the modules in their order");
+        observable
+    }
+
+    /// Of each position the place of its module, from 1, and the place of the module that the original's chain finds instead.
+    pub fn places(&self) -> Vec<(usize, Option<usize>)> {
+        let place = |m: &ModuleReference| m.location().map_or(1, |l| l.to_str().and_then(|n| n.parse().ok()).expect("a number"));
+        let finder = chain(&self.modules);
+        let found = |m: &ModuleReference| finder.find(m.name()).map(|f| place(&f)).filter(|p| *p != place(m));
+        self.modules.iter().map(|m| (place(m), found(m))).collect()
+    }
+
+    /// The position of the module that the original's chain finds.
     pub fn position(&self, name: &str) -> Option<usize> {
-        self.modules.iter().position(|m| m.name() == name)
+        let found = chain(&self.modules).find(name)?;
+        self.modules.iter().position(|m| m.name() == name && m.location() == found.location())
     }
 
     pub fn has_package(&self, name: &str, package: &str) -> bool {
@@ -62,7 +81,8 @@ impl Inputs {
             ModuleError::ModuleNotFound(n) if n == "java.base" => self.position(n).is_none(),
             ModuleError::ModuleNotFound(n) => {
                 let required = |m: &ModuleReference| m.descriptor().requires.iter().any(|r| &r.name == n && !r.is_static());
-                self.position(n).is_none() && (self.request.roots.contains(n) || self.modules.iter().any(required))
+                let observable = chain(&self.modules).find_all();
+                self.position(n).is_none() && (self.request.roots.contains(n) || observable.iter().any(required))
             }
             ModuleError::SplitPackage { package, module1, module2 } => {
                 module1 != module2 && self.has_package(module1, package) && self.has_package(module2, package)
@@ -71,16 +91,19 @@ impl Inputs {
         }
     }
 
-    /// A configuration of the library as the original's. The owner of a package is its first member.
+    /// A configuration of the library as the original's, which has nothing at the positions of hidden modules. The owner of a
+    /// package is its first member.
     pub fn configured(&self, configuration: &Configuration) -> ResolvedConfiguration {
         let mut resolved = BTreeMap::new();
         let mut owners = ahash::AHashMap::default();
-        for (i, reference) in self.modules.iter().enumerate().filter(|(i, _)| configuration.contains(*i)) {
+        let observable = self.observable();
+        let modules = || self.modules.iter().enumerate().filter(|(i, _)| observable[*i]);
+        for (i, reference) in modules().filter(|(i, _)| configuration.contains(*i)) {
             for p in &reference.descriptor().packages {
                 owners.entry(p.clone()).or_insert(reference.name().to_string());
             }
             let mut m = ResolvedModule::new(reference.clone());
-            for (_, to) in self.modules.iter().enumerate().filter(|(j, _)| configuration.reads(i, *j)) {
+            for (_, to) in modules().filter(|(j, _)| configuration.reads(i, *j)) {
                 m.add_read(to.name().to_string());
             }
             if configuration.reads_unnamed(i) {
@@ -90,7 +113,7 @@ impl Inputs {
         }
         // The resolver keeps its overrides to itself, so they come from a resolution of java.base alone.
         let base = ModuleReference::system(ModuleDescriptor::new("java.base".into()));
-        let c = self.resolver().resolve(&[], &SetFinder { modules: vec![base] }).expect("java.base alone resolves");
+        let c = self.resolver().resolve(&[], &chain(&[base])).expect("java.base alone resolves");
         ResolvedConfiguration::new(resolved, owners, c.add_exports().clone(), c.add_opens().clone())
     }
 }

@@ -1,7 +1,9 @@
-//! Sets and requests as the original's descriptors, and descriptors as records: a second reading of document 01.
+//! Sets and requests as the original's descriptors, and descriptors as records: a second reading of document 01 and, for places,
+//! of document 02.
 use crate::module::descriptor::{Exports, ModuleDescriptor, ModuleFlags, Opens, Provides, Requires, RequiresFlags};
 use crate::module::reference::{ModuleReference, ModuleSource};
 use std::collections::HashSet;
+use std::path::PathBuf;
 
 /// A refusal 1 to 3 by document 01: number, which input, offset.
 #[derive(Clone, Copy, Debug, PartialEq, Eq)]
@@ -72,15 +74,36 @@ fn record(b: &[u8], at: usize) -> Option<([u8; 2], &[u8], usize)> {
     Some(([h[0], h[1]], b.get(at + 4..at + 4 + n)?, at + 4 + n))
 }
 
+/// A module of a set while it is read.
+struct Found {
+    descriptor: ModuleDescriptor,
+    automatic: bool,
+    location: Option<PathBuf>,
+}
+
+/// The modules of a set by their positions, hidden ones too. Their locations are the numbers of their places, and none before the
+/// first PL.
 pub fn parse_set(b: &[u8]) -> Result<Vec<ModuleReference>, Bad> {
     let bad = |number, offset| Bad { number, which: "set", offset };
-    let mut found: Vec<(ModuleDescriptor, bool)> = Vec::new();
-    let mut names: HashSet<String> = HashSet::new();
+    let mut found: Vec<Found> = Vec::new();
+    let mut names: HashSet<String> = HashSet::new(); // of the place
+    let mut places = 0;
+    let mut location = None;
+    let mut in_module = false;
     let mut at = 0;
     while at < b.len() {
         let (mark, body, next) = record(b, at).ok_or(bad(1, at))?;
         let mut c = Body { b: body, at: 0 };
-        if &mark == b"MO" {
+        if &mark == b"PL" {
+            c.end().ok_or(bad(1, at))?;
+            if places == 8 {
+                return Err(bad(2, at));
+            }
+            places += 1;
+            location = Some(PathBuf::from(places.to_string()));
+            names.clear();
+            in_module = false;
+        } else if &mark == b"MO" {
             let m = (|| {
                 let flags = c.u16()?;
                 let auto = c.u8()?;
@@ -91,18 +114,21 @@ pub fn parse_set(b: &[u8]) -> Result<Vec<ModuleReference>, Bad> {
                 d.flags = ModuleFlags::from_bits_retain(flags);
                 d.version = c.version()?;
                 c.end()?;
-                Some((d, auto == 1))
+                Some(Found { descriptor: d, automatic: auto == 1, location: location.clone() })
             })()
             .ok_or(bad(1, at))?;
             if found.len() == 256 {
                 return Err(bad(2, at));
             }
-            if m.0.name == "ALL-UNNAMED" || !names.insert(m.0.name.clone()) {
+            let name = &m.descriptor.name;
+            if name == "ALL-UNNAMED" || !names.insert(name.clone()) {
                 return Err(bad(3, at));
             }
+            places = places.max(1);
             found.push(m);
+            in_module = true;
         } else {
-            let Some((d, _)) = found.last_mut() else {
+            let Some(Found { descriptor: d, .. }) = found.last_mut().filter(|_| in_module) else {
                 return Err(bad(1, at));
             };
             (|| {
@@ -151,9 +177,9 @@ pub fn parse_set(b: &[u8]) -> Result<Vec<ModuleReference>, Bad> {
     }
     Ok(found
         .into_iter()
-        .map(|(d, auto)| {
-            let s = if auto { ModuleSource::Automatic } else { ModuleSource::ModulePath };
-            ModuleReference::new(d, s, None)
+        .map(|m| {
+            let s = if m.automatic { ModuleSource::Automatic } else { ModuleSource::ModulePath };
+            ModuleReference::new(m.descriptor, s, m.location)
         })
         .collect())
 }

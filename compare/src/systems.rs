@@ -8,7 +8,7 @@ use crate::original::{Inputs, listing};
 use crate::random::Random;
 use crate::records::{parse_both, text};
 use crate::report::Report;
-use saqhovune::form::{Record, records};
+use saqhovune::form::{self, Record, module, place, record, records};
 use saqhovune::{Configuration, Input, Refusal, Row, WORDS};
 use std::collections::BTreeSet;
 
@@ -20,7 +20,12 @@ pub fn compare(report: &mut Report, seed: u64, questions: usize) {
     let s = generate::system(r);
     let (modules, request) = parse_both(&s.set, &s.request).expect("the generator writes well-formed inputs");
     let inputs = Inputs { modules, request };
+    let names = names(&inputs);
     report.compare("checks", seed, &"", saqhovune::check(&s.set, &s.request), Ok(inputs.modules.len()));
+    let places: Vec<_> = form::modules(&s.set).map(|m| (m.place, m.hidden_by)).collect();
+    report.compare("places as the crate lists them", seed, &"", places, inputs.places());
+    let kinds = kinds(&s, &inputs);
+    kinds.iter().for_each(|kind| report.count(kind[0]));
 
     let mut words = [PATTERN; WORDS + 1];
     let library = saqhovune::resolve_into(&s.set, &s.request, &mut words);
@@ -34,13 +39,14 @@ pub fn compare(report: &mut Report, seed: u64, questions: usize) {
     match (library, inputs.resolve()) {
         (Ok(n), Ok(original)) => {
             report.count("systems accepted");
+            kinds.iter().for_each(|kind| report.count(kind[1]));
             let c = Configuration::from_words(words[..WORDS].try_into().unwrap());
             report.compare("numbers of members", seed, &"", (n, c.len()), (original.len(), original.len()));
-            report.compare("listings", seed, &"", listing_of(&s, &c), listing(&original));
+            report.compare("listings", seed, &"", listing_of(&s, &names, &c), listing(&original));
             let others = (0..256).filter(|i| !c.contains(*i));
             let empty = |i: usize| !c.reads_unnamed(i) && (0..256).all(|j| !c.reads(i, j));
             report.hold("rows of others than members empty", seed, &"", others.into_iter().all(empty));
-            ask(report, seed, r, &s, &c, &original, questions, "resolved");
+            ask(report, seed, r, &s, &names, &c, &original, questions, "resolved");
         }
         (Err(e), Err(cause)) => {
             report.count(match e {
@@ -49,6 +55,7 @@ pub fn compare(report: &mut Report, seed: u64, questions: usize) {
                 Refusal::SplitPackage { .. } => "systems refused (7)",
                 _ => "systems refused otherwise",
             });
+            kinds.iter().for_each(|kind| report.count(kind[2]));
             report.hold("words left as they were on a refusal", seed, &"", words == [PATTERN; WORDS + 1]);
             report.hold("causes of the library true", seed, &e, cause_is_true(&s, &inputs, &e));
             report.hold("causes of the original true", seed, &cause, inputs.is_true(&cause));
@@ -65,12 +72,34 @@ pub fn compare(report: &mut Report, seed: u64, questions: usize) {
 
     let which = if r.chance(50) { Input::Set } else { Input::Request };
     damaged(report, seed, r, &s, which);
+    damaged_places(report, seed, r, &s);
     let any = Configuration::from_words(generate::words(r));
     let original = inputs.configured(&any);
-    ask(report, seed, r, &s, &any, &original, questions, "arbitrary");
+    ask(report, seed, r, &s, &names, &any, &original, questions, "arbitrary");
 }
 
-/// A set or a request with some bytes changed or cut off: refusals 1 to 3 as records.rs, a second reading of document 01, has them.
+/// What to count a system under: always, where it is accepted, and where it is refused.
+fn kinds(s: &System, inputs: &Inputs) -> Vec<[&'static str; 3]> {
+    let mut kinds = Vec::new();
+    if records(&s.set).any(|r| r.mark == b"PL") {
+        kinds.push(["systems with PL", "systems with PL accepted", "systems with PL refused (5 to 7)"]);
+    }
+    if records(&s.set).filter(|r| r.mark == b"PL" || r.offset == 0).count() == 8 {
+        let kind = ["systems of eight places", "systems of eight places accepted", "systems of eight places refused (5 to 7)"];
+        kinds.push(kind);
+    }
+    if inputs.observable().contains(&false) {
+        let kind = [
+            "systems with hidden modules",
+            "systems with hidden modules accepted",
+            "systems with hidden modules refused (5 to 7)",
+        ];
+        kinds.push(kind);
+    }
+    kinds
+}
+
+/// A set or a request with some bytes changed or cut off.
 fn damaged(report: &mut Report, seed: u64, r: &mut Random, s: &System, which: Input) {
     let (mut set, mut request) = (s.set.clone(), s.request.clone());
     let bytes = if which == Input::Set { &mut set } else { &mut request };
@@ -85,28 +114,98 @@ fn damaged(report: &mut Report, seed: u64, r: &mut Random, s: &System, which: In
             }
         }
     }
-    let expected = parse_both(&set, &request).map(|(modules, _)| modules.len()).map_err(|bad| match bad.number {
+    refused(report, seed, &which, &set, &request);
+}
+
+/// A set with PL put in and taken out, with a body, up to the eighth and the ninth place, with names again, and up to the 256th
+/// and the 257th module.
+fn damaged_places(report: &mut Report, seed: u64, r: &mut Random, s: &System) {
+    let mut all: Vec<Vec<u8>> = records(&s.set).map(|x| record(x.mark.try_into().unwrap(), x.body)).collect();
+    let is = |x: &[u8], mark: &[u8]| x.starts_with(mark);
+    // where a module may stand
+    let between = |r: &mut Random, all: &[Vec<u8>]| {
+        let starts = (0..=all.len()).filter(|i| all.get(*i).is_none_or(|x| is(x, b"MO") || is(x, b"PL")));
+        *r.choose(&starts.collect::<Vec<_>>())
+    };
+    for _ in 0..r.within(1, 2) {
+        match r.below(12) {
+            0 | 1 => all.insert(r.below(all.len() + 1), place()),
+            2 => all.insert(between(r, &all), place()),
+            3 => {
+                let body: &[u8] = r.pick(&[&b"\0"[..], b"\x01a", &[b'a'; 300]]);
+                all.insert(between(r, &all), record(b"PL", body));
+            }
+            4 | 5 => {
+                let starts: Vec<usize> = (0..all.len()).filter(|i| is(&all[*i], b"PL")).collect();
+                if !starts.is_empty() {
+                    all.remove(*r.choose(&starts));
+                }
+            }
+            6 | 7 => {
+                let more = r.within(8, 9).saturating_sub(all.iter().filter(|x| is(x, b"PL")).count());
+                for _ in 0..more {
+                    all.insert(between(r, &all), place());
+                }
+            }
+            8 => {
+                // modules in a new place, some of them hidden
+                let more = r.within(256, 257).saturating_sub(all.iter().filter(|x| is(x, b"MO")).count());
+                all.push(place());
+                all.extend((0..more).map(|i| module(s.names.get(i).unwrap_or(&format!("more{i}")))));
+            }
+            _ => {
+                let modules: Vec<&Vec<u8>> = all.iter().filter(|x| is(x, b"MO")).collect();
+                let again = r.choose(&modules).to_vec();
+                all.insert(between(r, &all), again);
+            }
+        }
+    }
+    refused(report, seed, &"places", &all.concat(), &s.request);
+}
+
+/// Refusals 1 to 3, or the number of modules, as records.rs, a second reading of the documents, has them.
+fn refused(report: &mut Report, seed: u64, of: &dyn std::fmt::Debug, set: &[u8], request: &[u8]) {
+    let expected = parse_both(set, request).map(|(modules, _)| modules.len()).map_err(|bad| match bad.number {
         1 => Refusal::Malformed { input: if bad.which == "set" { Input::Set } else { Input::Request }, offset: bad.offset },
         2 => Refusal::TooLarge { offset: bad.offset },
         _ => Refusal::Repeated { offset: bad.offset },
     });
-    report.compare("checks of damaged inputs (by a second reading)", seed, &which, saqhovune::check(&set, &request), expected);
+    report.compare("checks of damaged inputs (by a second reading)", seed, of, saqhovune::check(set, request), expected);
     if let Err(e) = expected {
-        report.compare("resolutions of damaged inputs", seed, &which, saqhovune::resolve(&set, &request), Err(e));
-        let verdict = saqhovune::check_access(&set, &request, &Configuration::from_words([0; WORDS]), b"a", b"a", b"");
-        report.compare("questions of damaged inputs", seed, &which, verdict, Err(e));
+        report.compare("resolutions of damaged inputs", seed, of, saqhovune::resolve(set, request), Err(e));
+        let verdict = saqhovune::check_access(set, request, &Configuration::from_words([0; WORDS]), b"a", b"a", b"");
+        report.compare("questions of damaged inputs", seed, of, verdict, Err(e));
+    }
+    if records(set).any(|r| r.mark == b"PL") {
+        let at = |offset: usize| set[offset..].starts_with(b"PL");
+        let behind = |offset: usize| offset >= 4 && set[offset - 4..].starts_with(b"PL\0\0");
+        report.count(match expected {
+            Ok(_) => "damaged inputs with PL accepted",
+            Err(Refusal::Malformed { input: Input::Set, offset }) if at(offset) => "damaged inputs with PL refused (1 at a PL)",
+            Err(Refusal::Malformed { input: Input::Set, offset }) if behind(offset) => {
+                "damaged inputs with PL refused (1 behind a PL)"
+            }
+            Err(Refusal::Malformed { .. }) => "damaged inputs with PL refused (1 elsewhere)",
+            Err(Refusal::TooLarge { offset: 0 }) => "damaged inputs with PL refused (2 by length)",
+            Err(Refusal::TooLarge { offset }) if at(offset) => "damaged inputs with PL refused (2 at the ninth place)",
+            Err(Refusal::TooLarge { .. }) => "damaged inputs with PL refused (2 at the 257th module)",
+            Err(_) => "damaged inputs with PL refused (3)",
+        });
     }
 }
 
-/// A name for each of the 256 positions, also for those that the set does not have.
-fn names(s: &System) -> Vec<String> {
-    let mut names: Vec<String> = saqhovune::form::module_names(&s.set).map(text).collect();
-    names.extend((names.len()..256).map(|i| format!("(position {i})")));
-    names
+/// A name for each of the 256 positions, also for those of hidden modules and those that the set does not have.
+fn names(inputs: &Inputs) -> Vec<String> {
+    let observable = inputs.observable();
+    let name = |i: usize| match inputs.modules.get(i) {
+        Some(m) if observable[i] => m.name().into(),
+        Some(m) => format!("(position {i}, a hidden {})", m.name()),
+        None => format!("(position {i})"),
+    };
+    (0..256).map(name).collect()
 }
 
-fn listing_of(s: &System, c: &Configuration) -> String {
-    let names = names(s);
+fn listing_of(s: &System, names: &[String], c: &Configuration) -> String {
     let mut members: Vec<usize> = c.members().collect();
     members.sort_by_key(|i| &names[*i]);
     let mut out = format!("resolved {}\n", members.len());
@@ -130,7 +229,8 @@ fn listing_of(s: &System, c: &Configuration) -> String {
 
 /// The refusal as the original's, if it is one of a resolution.
 fn told(s: &System, inputs: &Inputs, e: &Refusal) -> Option<ModuleError> {
-    let name = |i: usize| inputs.modules.get(i).map(|m| m.name().to_string());
+    let observable = inputs.observable();
+    let name = |i: usize| inputs.modules.get(i).filter(|_| observable[i]).map(|m| m.name().to_string());
     match *e {
         Refusal::ModuleNotFound { input, start, len } => {
             let bytes = if input == Input::Set { &s.set } else { &s.request };
@@ -158,7 +258,12 @@ fn cause_is_true(s: &System, inputs: &Inputs, e: &Refusal) -> bool {
             roots.find(|r| r.body.get(1..) == wanted).is_some_and(|r| place(&r, 0) == (start, len))
         }
         Refusal::ModuleNotFound { start, len, .. } => {
-            let mut required = records(&s.set).filter(|r| r.mark == b"RQ" && r.body[1] & 0x40 == 0);
+            let observable = inputs.observable();
+            let mut modules = 0;
+            let mut required = records(&s.set).filter(|r| {
+                modules += usize::from(r.mark == b"MO");
+                r.mark == b"RQ" && observable[modules - 1] && r.body[1] & 0x40 == 0
+            });
             required.any(|r| place(&r, 2) == (start, len))
         }
         Refusal::SplitPackage { start, len, second, .. } => {
@@ -169,7 +274,8 @@ fn cause_is_true(s: &System, inputs: &Inputs, e: &Refusal) -> bool {
                     seen <= second
                 }
             });
-            let mut packages = module.skip(1).take_while(|r| r.mark != b"MO").filter(|r| r.mark == b"PK");
+            let of_module = module.skip(1).take_while(|r| r.mark != b"MO" && r.mark != b"PL");
+            let mut packages = of_module.filter(|r| r.mark == b"PK");
             // the first record of the package
             let wanted = s.set.get(start..start + len);
             packages.find(|r| r.body.get(1..) == wanted).is_some_and(|r| place(&r, 0) == (start, len))
@@ -179,8 +285,7 @@ fn cause_is_true(s: &System, inputs: &Inputs, e: &Refusal) -> bool {
     has_place && told(s, inputs, e).is_some_and(|cause| inputs.is_true(&cause))
 }
 
-fn row_names(s: &System, row: &Row) -> BTreeSet<String> {
-    let names = names(s);
+fn row_names(names: &[String], row: &Row) -> BTreeSet<String> {
     let mut all: BTreeSet<String> = row.positions().map(|i| names[i].clone()).collect();
     if row.contains_unnamed() {
         all.insert("ALL-UNNAMED".into());
@@ -194,6 +299,7 @@ fn ask(
     seed: u64,
     r: &mut Random,
     s: &System,
+    names: &[String],
     c: &Configuration,
     original: &ResolvedConfiguration,
     questions: usize,
@@ -222,25 +328,33 @@ fn ask(
         report.compare(kind("reflection verdicts, resolved", "reflection verdicts, arbitrary"), seed, &of, verdict, expected);
         let reads = saqhovune::can_read(&s.set, c, &q[0], &q[1]);
         report.compare(kind("can_read, resolved", "can_read, arbitrary"), seed, &of, reads, Ok(access.can_read(&a, &t)));
-        owner(report, seed, s, c, original, &q[2], kind("owners, resolved", "owners, arbitrary"));
+        owner(report, seed, s, names, c, original, &q[2], kind("owners, resolved", "owners, arbitrary"));
     }
     for _ in 0..questions.div_ceil(4) {
         let name = generate::asked_name(r, s);
         let n = text(&name);
         let row = saqhovune::readers_of(&s.set, c, &name).expect("the set is well-formed");
         let expected = graph.readers_of(&n).cloned().unwrap_or_default();
-        report.compare(kind("readers_of, resolved", "readers_of, arbitrary"), seed, &n, row_names(s, &row), expected);
+        report.compare(kind("readers_of, resolved", "readers_of, arbitrary"), seed, &n, row_names(names, &row), expected);
         let row = saqhovune::transitive_reads(&s.set, c, &name).expect("the set is well-formed");
         let expected = graph.transitive_reads(&n);
-        report.compare(kind("transitive_reads, resolved", "transitive_reads, arbitrary"), seed, &n, row_names(s, &row), expected);
+        report.compare(
+            kind("transitive_reads, resolved", "transitive_reads, arbitrary"),
+            seed,
+            &n,
+            row_names(names, &row),
+            expected,
+        );
     }
 }
 
 /// Where two members of an arbitrary configuration have the package, the original has no answer.
+#[allow(clippy::too_many_arguments)]
 fn owner(
     report: &mut Report,
     seed: u64,
     s: &System,
+    names: &[String],
     c: &Configuration,
     original: &ResolvedConfiguration,
     package: &[u8],
@@ -251,7 +365,6 @@ fn owner(
         report.count("skipped: package of several members");
         return;
     }
-    let names = names(s);
     let found = saqhovune::find_module_for_package(&s.set, c, package).expect("the set is well-formed");
     let found = found.map(|i| names[i].clone());
     report.compare(kind, seed, &p, found, original.find_module_for_package(&p).map(String::from));

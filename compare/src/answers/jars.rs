@@ -99,6 +99,7 @@ fn packages() -> Vec<Jar> {
         jar("packages: with a manifest name", "1.jar").manifest("m").packages(&[p()]),
         jar("packages: anything but PK is malformed", "a.jar").packages(&[p(), exports("p", &[])]).refused(1, p().len()),
         jar("packages: an MO is malformed", "a.jar").packages(&[module("a")]).refused(1, 0),
+        jar("packages: a PL is malformed", "a.jar").packages(&[p(), place()]).refused(1, p().len()),
         jar("packages: a root is malformed", "a.jar").packages(&[root("a")]).refused(1, 0),
         jar("packages: a header cut off is malformed", "a.jar").packages(&[p(), p(), b"PK\0".to_vec()]).refused(1, 12),
         jar("packages: a body past the end is malformed", "a.jar").packages(&[p(), b"PK\0\x02\x01".to_vec()]).refused(1, 6),

@@ -6,19 +6,19 @@ use saqhovune::form::*;
 const UNNAMED: &str = "ALL-UNNAMED";
 
 /// A set with this fault behind the good part; a whole module follows.
-fn set(name: &str, number: u8, good: &[Vec<u8>], fault: &[u8]) -> System {
+pub(super) fn set(name: &str, number: u8, good: &[Vec<u8>], fault: &[u8]) -> System {
     let which = if number == 1 { SET } else { 0 };
     let at = good.concat().len();
     system(name, &[good.concat(), fault.to_vec(), module("after")], &[]).refused(number, which, at)
 }
 
 /// A set that ends with the fault.
-fn cut(name: &str, good: &[Vec<u8>], fault: &[u8]) -> System {
+pub(super) fn cut(name: &str, good: &[Vec<u8>], fault: &[u8]) -> System {
     system(name, &[good.concat(), fault.to_vec()], &[]).refused(1, SET, good.concat().len())
 }
 
 /// A request with this fault behind the good part.
-fn request(name: &str, good: &[Vec<u8>], fault: &[u8]) -> System {
+pub(super) fn request(name: &str, good: &[Vec<u8>], fault: &[u8]) -> System {
     let at = good.concat().len();
     system(name, &[module("java.base")], &[good.concat(), fault.to_vec(), root("java.base")]).refused(1, REQUEST, at)
 }
@@ -32,7 +32,7 @@ fn without_last(record: Vec<u8>) -> Vec<u8> {
 }
 
 /// The record with one byte more in its body.
-fn longer(r: Vec<u8>) -> Vec<u8> {
+pub(super) fn longer(r: Vec<u8>) -> Vec<u8> {
     record(&[r[0], r[1]], &[&r[4..], &[0]].concat())
 }
 
@@ -42,7 +42,7 @@ fn shorter(r: Vec<u8>) -> Vec<u8> {
 }
 
 /// Each kind of record of a set that belongs to a module.
-fn of_module() -> Vec<Vec<u8>> {
+pub(super) fn of_module() -> Vec<Vec<u8>> {
     vec![
         requires("a", 0),
         exports("p", &["a"]),
@@ -58,7 +58,7 @@ fn of_request() -> Vec<Vec<u8>> {
     vec![root("a"), limit(&["a"]), add_read("a", "b"), add_export("a", "p", "b"), add_open("a", "p", "b")]
 }
 
-fn mark(record: &[u8]) -> String {
+pub(super) fn mark(record: &[u8]) -> String {
     String::from_utf8_lossy(&record[..2]).into()
 }
 

@@ -1,12 +1,13 @@
 //! A fixed list of small cases with the original's answers, for the test program `answers`, whose main.rt tells the layout.
 //!
 //! The original gives members, read edges, owners, readers, verdicts, jar names and the causes of refusals 5 to 7, 9 and 10. It
-//! must give the same under any hashing. It has no refusals 1 to 4 and no places in an input: those are by document 01, and the
-//! list names them by hand.
+//! must give the same under any hashing. It has no refusals 1 to 4 and no offsets in an input: those are by document 01 and, for
+//! places, U2 of document 02, and the list names them by hand.
 mod access;
 mod configurations;
 mod jars;
 mod malformed;
+mod places;
 mod queue;
 mod reads;
 mod rounds;
@@ -234,12 +235,13 @@ fn entries(s: &System, inputs: &Inputs, c: &ResolvedConfiguration, line: &mut St
     out
 }
 
-/// The words of the original's members and a row for each module.
+/// The words of the original's members and a row for each module, empty for a hidden one.
 fn configuration(inputs: &Inputs, c: &ResolvedConfiguration) -> Vec<u8> {
     let mut out = Vec::new();
     put_row(&mut out, c.modules().map(|m| inputs.position(m.name()).unwrap()));
-    for m in &inputs.modules {
-        put_names(&mut out, inputs, &c.get(m.name()).map(|m| m.reads().clone()).unwrap_or_default());
+    for (m, observable) in inputs.modules.iter().zip(inputs.observable()) {
+        let member = c.get(m.name()).filter(|_| observable);
+        put_names(&mut out, inputs, &member.map(|m| m.reads().clone()).unwrap_or_default());
     }
     out
 }
@@ -384,7 +386,7 @@ impl Out {
 pub fn write(folder: &Path) -> std::io::Result<()> {
     let mut out = Out::default();
     let systems = [malformed::systems(), queue::systems(), rounds::systems(), reads::systems(), access::systems()];
-    let systems: Vec<System> = systems.into_iter().flatten().chain(configurations::systems()).collect();
+    let systems: Vec<System> = systems.into_iter().flatten().chain(configurations::systems()).chain(places::systems()).collect();
     let jars = jars::jars();
     let mut names: Vec<&str> = systems.iter().map(|s| s.name.as_str()).chain(jars.iter().map(|j| j.name.as_str())).collect();
     names.sort();
