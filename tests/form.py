@@ -13,6 +13,10 @@ def module(n):
     return record(b"MO", b"\0\0\0" + name(n) + b"\0")
 
 
+# the start of a place
+place = record(b"PL", b"")
+
+
 def requires(n, flags=0):
     return record(b"RQ", flags.to_bytes(2, "big") + name(n) + b"\0")
 

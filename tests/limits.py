@@ -3,7 +3,7 @@
 import os
 import sys
 
-from form import base, listing, module, name, package, record, requires
+from form import base, listing, module, name, package, place, record, requires
 
 
 def filled(size):
@@ -30,6 +30,12 @@ files = {
     "set-listing": listing,
     "set-256-modules": many(256),
     "set-257-modules": many(257),
+    "set-8-places": place * 8,
+    "set-9-places": place * 9,
+    "set-8-places-module-first": base + place * 7,
+    "set-9-places-module-first": base + place * 8,
+    "set-256-with-hidden": many(128) + place + many(128),
+    "set-257-with-hidden": many(128) + place + many(129),
     "set-65535-bytes": filled(65535),
     "set-65536-bytes": filled(65536),
     "set-cut-off": base + package(b"java/lang")[:-1],
@@ -40,6 +46,10 @@ files = {
     "set-second-main-class": base + record(b"MC", name(b"A")) + record(b"MC", name(b"A")),
     "set-repeated": base + module(b"a") + package(b"a") + module(b"java.base"),
     "set-unnamed": base + module(b"ALL-UNNAMED"),
+    "set-place-body": base + record(b"PL", name(b"a")),
+    "set-place-requires": place + requires(b"a"),
+    "set-repeated-in-place": module(b"a") + place + module(b"a") + module(b"a"),
+    "set-repeated-across-places": module(b"a") + place + module(b"b") + place + module(b"a"),
     "request-second-limit": record(b"RT", name(b"a")) + limit + limit,
     "request-module": module(b"a"),
     "packages-export": package(b"b") + record(b"EX", name(b"b") + b"\0\0"),

@@ -107,6 +107,19 @@ fn modules() {
     set(b"set-65536-bytes");
 }
 
+fn places() {
+    set(b"set-8-places");
+    set(b"set-9-places");
+    set(b"set-8-places-module-first");
+    set(b"set-9-places-module-first");
+    set(b"set-256-with-hidden");
+    set(b"set-257-with-hidden");
+    set(b"set-place-body");
+    set(b"set-place-requires");
+    set(b"set-repeated-in-place");
+    set(b"set-repeated-across-places");
+}
+
 fn malformed() {
     set(b"set-cut-off");
     set(b"set-unknown-mark");
@@ -140,6 +153,7 @@ fn jars() {
 fn main() {
     modules();
     malformed();
+    places();
     requests();
     jars();
 }
