@@ -1,8 +1,11 @@
-// Resolves the set and the request in the files `set` and `request`, and prints the configuration, or the number of the refusal.
+// Resolves the set and the request in the files `set` and `request`, and prints the configuration, or the number of the refusal; and on
+// standard error which modules are hidden.
+mod hidden;
 mod names;
 
 ghost use Prim.Native.Nat.{_≤_};
 ghost use lib.ListN.{length};
+use hidden::tell_hidden;
 use libc::STDOUT_FILENO;
 use names::in_order;
 use names::module_of;
@@ -145,6 +148,7 @@ fn answer(set: &[u8], request: &[u8])
         Outcome::Accepted => list(set, r.configuration),
         Outcome::Refused(e) => number(b"refused ", e.number()),
     }
+    tell_hidden(set);
 }
 
 fn main() {
