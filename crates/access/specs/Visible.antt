@@ -1,5 +1,5 @@
--- A set and another, v, that give the same with a request, told by names (U2: "resolution of a set is that of its visible blocks one
--- after the other, told by names").
+-- A set and another, v, that give the same with a request, told by names. `visible-same` shows it of a set and its visible blocks one
+-- after the other (U2).
 use mathlib.Core.Path.{_≡_}
 use mathlib.Core.Bool.{Bool}
 use mathlib.Core.List.{List}

@@ -16,12 +16,14 @@ use Rattle.records.specs.Places.{hasPlace}
 use Rattle.records.specs.Record.{records}
 use Rattle.records.specs.Set.{nameAt, blocks, blockAt, modules, checkSet}
 use Rattle.records.specs.Finder.{findModule, isFirst, foundFrom, visibleBlocks}
+use Rattle.records.specs.Index.{Indexed}
 use Rattle.records.specs.declared.finder.Found.the-variants.{At, Nothing}
 use Rattle.records.specs.declared.set.SetAnswer.the-variants.{Modules}
 use Rattle.records.proofs.Logic.{by}
 use Rattle.records.proofs.set.Blocks.{GoodSet, good-set}
 use Rattle.records.proofs.set.OnePlace.{none-hidden, all-visible}
 use Rattle.resolution.specs.Lists.{Name, Mem}
+use Rattle.resolution.specs.Lookup.{Lookup}
 use Rattle.resolution.specs.Loop.{failed, done, loop}
 use Rattle.resolution.specs.Resolution.{names, find, hasModule, observable, State, ranOut, round, resolve}
 use Rattle.resolution.specs.Closed.{Accepted}
@@ -73,6 +75,20 @@ module _ (s : List ℕ) (n : ℕ) (t : List ℕ) (e : checkSet s ≡ record { an
   pub visible-start : (k : ℕ) → k < n → isVisible (modules s) k ≡ isFirst (map (nameAt s) (take n t)) (nameAt s (getD t k 0)) k
   unfolding isVisible
   visible-start k l = ap (λ (x : List Name). isFirst x (moduleAt (modules s) k .name) k) (sym (good-set s n t e .names)) ∙ ap (λ (x : Name). isFirst (map (nameAt s) (take n t)) x k) (sym (name-at-start k l))
+
+  -- an index of its names is what a lookup by name asks
+  pub set-lookup : (index : List ℕ) → Indexed (map (nameAt s) (take n t)) index → Lookup s t n index
+  set-lookup index x = record { few = good-set s n t e .few; within = starts-room; indexed = x }
+
+-- and what that has in it
+pub lookup-few : (s t index : List ℕ) (n : ℕ) → Lookup s t n index → n ≤ 256
+lookup-few s t index n x = x .few
+
+pub lookup-room : (s t index : List ℕ) (n : ℕ) → Lookup s t n index → n ≤ length t
+lookup-room s t index n x = x .within
+
+pub lookup-index : (s t index : List ℕ) (n : ℕ) → Lookup s t n index → Indexed (map (nameAt s) (take n t)) index
+lookup-index s t index n x = x .indexed
 
 -- what the finder says of a name
 pub set-located : (s : List ℕ) (n : Name) (i : ℕ) → findModule s n ≡ At i → Located n (modules s) i

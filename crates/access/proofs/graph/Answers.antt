@@ -14,7 +14,6 @@ use Rattle.records.specs.Bytes.{sameBytes}
 use Rattle.records.specs.Name.{allUnnamed}
 use Rattle.records.specs.Set.{nameAt, modules, checkSet}
 use Rattle.records.specs.Finder.{findName, findModule, isFirst}
-use Rattle.records.specs.Index.{Indexed}
 use Rattle.records.specs.declared.error.ModuleError.{ModuleError}
 use Rattle.records.specs.declared.finder.Found.{Found}
 use Rattle.records.specs.declared.finder.Found.the-variants.{At, Nothing}
@@ -29,7 +28,6 @@ use Rattle.records.proofs.set.Blocks.{GoodSet, good-set}
 use Rattle.resolution.specs.Lists.{Name}
 use Rattle.resolution.specs.Positions.{isVisible}
 use Rattle.resolution.specs.Observed.{hasMember, hasEdge, hasUnnamedEdge}
-use Rattle.resolution.specs.Lookup.{Lookup}
 use Rattle.resolution.specs.Row.{holds, Empty, Added}
 use Rattle.resolution.specs.Graph.{edge}
 use Rattle.resolution.specs.Readability.{Holding}
@@ -37,7 +35,7 @@ use Rattle.resolution.specs.Resolve.{words}
 use Rattle.resolution.specs.declared.configuration.Configuration.{Configuration}
 use Rattle.resolution.proofs.Observed.{member-bit}
 use Rattle.resolution.proofs.Positions.{visible-in}
-use Rattle.resolution.proofs.Sets.{set-length, starts-room, visible-start}
+use Rattle.resolution.proofs.Sets.{set-length, starts-room, visible-start, set-lookup, lookup-few, lookup-room, lookup-index}
 use Rattle.access.specs.Access.{passes, edgeTo, isReader}
 use Rattle.access.specs.Members.{memberIn}
 use Rattle.access.specs.ReadGraph.{readsAt, readsUnnamedAt, Leads, step, then, LeadsToOne, refusedGraph, readersAnswered, readersOf, LeadsToUnnamed, LedFrom, TransitiveReads}
@@ -122,9 +120,6 @@ module _ (s : List ℕ) (n : ℕ) (t : List ℕ) (e : checkSet s ≡ record { an
   pub visible-few : n ≤ 256
   visible-few = good-set s n t e .few
 
-  pub visible-index : (index : List ℕ) → Indexed (map (nameAt s) (take n t)) index → Lookup s t n index
-  visible-index index x = record { few = visible-few; within = starts-room s n t e; indexed = x }
-
   module _ (row : List ℕ) where
     pub seen-start : Empty row → PassedAt (isVisible (modules s)) n row 0
     seen-start h = passed-start (isVisible (modules s)) n row h
@@ -145,19 +140,9 @@ module _ (s : List ℕ) (n : ℕ) (t : List ℕ) (e : checkSet s ≡ record { an
         pub seen-more : (after : List ℕ) → r ≡ true → Added row k after → PassedAt (isVisible (modules s)) n after (k + 1)
         seen-more after y a = passed-more (isVisible (modules s)) n row k h visible-few after l (visible-start s n t e k l ∙ sym er ∙ y) a
 
--- what the index asks
-pub lookup-few : (s t index : List ℕ) (n : ℕ) → Lookup s t n index → n ≤ 256
-lookup-few s t index n x = x .few
-
-pub lookup-room : (s t index : List ℕ) (n : ℕ) → Lookup s t n index → n ≤ length t
-lookup-room s t index n x = x .within
-
-pub lookup-index : (s t index : List ℕ) (n : ℕ) → Lookup s t n index → Indexed (map (nameAt s) (take n t)) index
-lookup-index s t index n x = x .indexed
-
 pub ruleset seen-laws = (seen-start, seen-end, seen-not, seen-more, lookup-few, lookup-room, lookup-index)
 
-pub ruleset visible-laws = (indexed-none, visible-few, starts-room, visible-index)
+pub ruleset visible-laws = (indexed-none, visible-few, starts-room, set-lookup)
 
 module _ (s : List ℕ) (n : ℕ) (t : List ℕ) (e : checkSet s ≡ record { answer = Modules n; starts = t }) where
   pub members-are : (ws seen own : List ℕ) → Holding seen (isVisible (modules s)) → Holding own (heldBoth n seen ws) → Holding own (countsAt (isVisible (modules s)) ws)

@@ -27,14 +27,12 @@ use Rattle.resolution.specs.Row.{holds, Empty, Added}
 use Rattle.resolution.specs.Readability.{Members, ReadEdges, tableNames}
 use Rattle.resolution.specs.Resolver.{isOneOf}
 use Rattle.resolution.specs.Resolve.{memberAt, edgeAt, unnamedAt, configurationOf, refused}
-use Rattle.resolution.specs.Lookup.{Lookup}
-use Rattle.records.specs.Index.{Indexed}
 use Rattle.resolution.specs.Configure.{MemberRow, AcceptedWith, Configured, PermittedRow}
 use Rattle.resolution.specs.declared.resolve.Outcome.the-variants.{Accepted, Refused}
 use Rattle.resolution.specs.declared.resolve.Resolution.{Resolution}
 use Rattle.resolution.proofs.Lists.{any-out, map-out}
 use Rattle.resolution.proofs.Positions.{index-at, has-at, visible-in, visible-found, visible-located}
-use Rattle.resolution.proofs.Sets.{set-length, starts-long, name-at-start, visible-start}
+use Rattle.resolution.proofs.Sets.{set-length, starts-long, name-at-start, visible-start, lookup-few, lookup-room, lookup-index}
 use Rattle.resolution.proofs.Words.{words-are, edges-are}
 use Rattle.resolution.proofs.resolver.Ends.{one-of-end}
 
@@ -105,17 +103,7 @@ module _ (s q : List ℕ) (n : ℕ) (t : List ℕ) (e : checkSet s ≡ record { 
       pub permitted-more : (after : List ℕ) → v ≡ true → r ≡ true → Added ws k after → PermittedAt s q n after (k + 1)
       permitted-more after h g a = grows after (here h ∙ g) a
 
--- what the index asks
-pub permitted-few : (s t index : List ℕ) (n : ℕ) → Lookup s t n index → n ≤ 256
-permitted-few s t index n x = x .few
-
-pub permitted-room : (s t index : List ℕ) (n : ℕ) → Lookup s t n index → n ≤ length t
-permitted-room s t index n x = x .within
-
-pub permitted-index : (s t index : List ℕ) (n : ℕ) → Lookup s t n index → Indexed (map (nameAt s) (take n t)) index
-permitted-index s t index n x = x .indexed
-
-pub ruleset permitted-laws = (permitted-start, permitted-end, starts-long, permitted-few, permitted-room, permitted-index, permitted-hidden, permitted-not, permitted-more)
+pub ruleset permitted-laws = (permitted-start, permitted-end, starts-long, lookup-few, lookup-room, lookup-index, permitted-hidden, permitted-not, permitted-more)
 
 -- ---- the positions as a row
 

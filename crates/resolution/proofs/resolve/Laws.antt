@@ -2,13 +2,12 @@
 use Prim.Native.Nat.{ℕ, _≤_}
 use mathlib.Core.Path.{_≡_, refl, sym, _∙_, ap, subst}
 use mathlib.Core.Bool.{Bool, true, false}
-use mathlib.Core.List.{List, map}
+use mathlib.Core.List.{List}
 use lib.Dec.{ltb}
 use lib.ListN.{length, take}
 use borrow.Author.Tests.{ltb-true, ltb-false}
 use Rattle.records.specs.Request.{requestOf, checkInputs}
-use Rattle.records.specs.Index.{Indexed}
-use Rattle.records.specs.Set.{checkSet, nameAt, modules, refused as refusedSet}
+use Rattle.records.specs.Set.{checkSet, modules, refused as refusedSet}
 use Rattle.records.specs.declared.error.ModuleError.{ModuleError}
 use Rattle.records.specs.declared.error.ModuleError.the-variants.{TooLarge}
 use Rattle.records.specs.declared.set.Checked.{Checked}
@@ -22,7 +21,6 @@ use Rattle.resolution.specs.Resolution.{State, Refusal}
 use Rattle.resolution.specs.Resolution as Resolution
 use Rattle.resolution.specs.Resolve.{refused, errorOf, told, answered, resolve}
 use Rattle.resolution.specs.Resolver.{Line, lineAt, startOn, resolveAt}
-use Rattle.resolution.specs.Lookup.{Lookup}
 use Rattle.resolution.specs.Configure.{PermittedRow, Configured}
 use Rattle.resolution.specs.declared.resolve.Resolution as Declared
 use Rattle.resolution.specs.declared.resolver.Halt.{Halt}
@@ -30,7 +28,7 @@ use Rattle.resolution.specs.declared.resolver.Halt.the-variants as Halt
 use Rattle.resolution.specs.declared.resolver.Queue.{Queue}
 use Rattle.resolution.proofs.ResolverRun.{refusedWith, positions, answerOn, answerAt}
 use Rattle.resolution.proofs.ResolverWhole.{answerOf, Accepts, resolver-is, resolver-accepts}
-use Rattle.resolution.proofs.Sets.{starts-room}
+use Rattle.resolution.proofs.Sets.{starts-room, set-lookup}
 use Rattle.records.proofs.request.Taken.{inputs-taken}
 
 -- ---- a set and a request that the check takes
@@ -41,9 +39,6 @@ module _ (s q : List ℕ) (n : ℕ) (t : List ℕ) (e : checkSet s ≡ record { 
 
   pub checked-room : n ≤ length t
   checked-room = starts-room s n t e
-
-  pub checked-index : (index : List ℕ) → Indexed (map (nameAt s) (take n t)) index → Lookup s t n index
-  checked-index index i = record { few = checked-few; within = checked-room; indexed = i }
 
   pub checked-short : length s ≤ 65535
   checked-short = good-set s n t e .short
@@ -87,7 +82,7 @@ module _ (s q : List ℕ) (n : ℕ) (t : List ℕ) (e : checkSet s ≡ record { 
     pub checked-open : (r : Declared.Resolution) → queue .halt ≡ Halt.Open → Configured s q n (take (queue .tail) order) r → r ≡ told s q (Resolution.resolve (modules s) (requestOf q))
     checked-open r k c = accepts r k c R refl
 
-pub ruleset checked-laws = (indexed-none, checked-few, checked-room, checked-index, checked-short, checked-open, checked-stop, checked-refused)
+pub ruleset checked-laws = (indexed-none, checked-few, checked-room, set-lookup, checked-short, checked-open, checked-stop, checked-refused)
 
 -- ---- any set and request
 
