@@ -1,7 +1,7 @@
 /* The C functions of the crate host: `rt staticlib host` writes target/staticlib/libhost.a with them.
  *
- * A set may have up to eight places, each begun by a record PL with an empty body; records before the first PL are the first
- * place. Of modules of one name, which stand in different places, the first from the front counts and hides the others. Positions
+ * A set may have up to eight places, each begun by a record PL with an empty body; records before the first PL, if any, are the
+ * first place. Of modules of one name, which stand in different places, the first from the front counts and hides the others. Positions
  * count all modules of the set from 0, hidden ones too; a hidden module is checked like others, and is never a member.
  *
  * A slice is a pointer and a length. Every pointer is not null and is aligned, also that of a slice of length 0. What is written,
