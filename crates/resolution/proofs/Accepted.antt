@@ -62,6 +62,21 @@ taken-stop inRound s rq ms met (e ∷ q) h = passed-on _ inRound s rq e ms met q
 
 -- ---- the whole resolution
 
+-- once the roots are queued each of them is met
+seeds-root : (s : List Descriptor) (rq : Request) (met : List Name) (q : List Item) (n : Name) → seeds s rq ≡ enqueued met q → Mem n (rq .roots) → memName n met ≡ true
+unfolding seeds asRequirement
+seeds-root s rq met q n e h =
+    enqueue-all false s root (map asRequirement (rq .roots)) 0 (baseMet (memName javaBase (rq .roots))) (baseQueue (memName javaBase (rq .roots))) met q (asRequirement n) e (map-in asRequirement h) (inr refl)
+
+-- and java.base too
+pub seeds-base : (s : List Descriptor) (rq : Request) (met : List Name) (q : List Item) → seeds s rq ≡ enqueued met q → memName javaBase met ≡ true
+unfolding seeds baseMet
+seeds-base s rq met q e = by (memName javaBase (rq .roots)) (λ h. seeds-root s rq met q javaBase e (memName-out javaBase (rq .roots) h))
+    (λ h. enqueue-mono false s root (map asRequirement (rq .roots)) 0 (baseMet b) (baseQueue b) met q javaBase e (subst (λ (z : Bool). memName javaBase (baseMet z) ≡ true) (sym h) (met-new javaBase [])))
+  where
+    b : Bool
+    b = memName javaBase (rq .roots)
+
 -- what holds between rounds
 abbrev pub Rest : List Descriptor → Request → (Name → Type 0) → State → Type 0
 Rest s rq C st = Invariant s rq C st × (st .queue ≡ [])
@@ -89,8 +104,8 @@ module _ (s : List Descriptor) (rq : Request) (C : Name → Type 0) (closed : Cl
       record {
         front = front;
         sound = λ m k. absurd (List·Memᴰ·not-nil k);
-        base = base-met;
-        roots = met-root;
+        base = seeds-base s rq met q e;
+        roots = λ n. seeds-root s rq met q n e;
         reqs = λ m r k. absurd (List·Memᴰ·not-nil k);
         apart = λ m k p a. absurd (List·Memᴰ·not-nil a);
       }
@@ -103,36 +118,30 @@ module _ (s : List Descriptor) (rq : Request) (C : Name → Type 0) (closed : Cl
           (λ r m h p f. let x = map-out asRequirement (rq .roots) h in
           subst (λ (z : Requirement). isPermitted rq (z .name) ≡ true → C (z .name)) (sym (x .2)) (closed .root (x .0) (x .1)) p) (first-front b) e
 
-      met-root : (n : Name) → Mem n (rq .roots) → memName n met ≡ true
-      met-root n h = enqueue-all false s root (map asRequirement (rq .roots)) 0 (baseMet b) (baseQueue b) met q (asRequirement n) e (map-in asRequirement h) (inr refl)
-
-      base-met : memName javaBase met ≡ true
-      base-met = by (memName javaBase (rq .roots)) (λ h. met-root javaBase (memName-out javaBase (rq .roots) h))
-          (λ h. enqueue-mono false s root (map asRequirement (rq .roots)) 0 (baseMet b) (baseQueue b) met q javaBase e (subst (λ (z : Bool). memName javaBase (baseMet z) ≡ true) (sym h) (met-new javaBase [])))
-
   -- a round
-  -- a provider that is queued is in C
-  provider-closed : (st : State) → Invariant s rq C st → (r : Requirement) (k : Descriptor) → Mem r (providers s rq (st .resolved))
+  -- a provider that is queued is in C, where the modules resolved are
+  pub provider-closed : (ms : List Descriptor) → ((u : Descriptor) → Mem u ms → (find (u .name) s ≡ some u) × C (u .name)) → (r : Requirement) (k : Descriptor) → Mem r (providers s rq ms)
       → isPermitted rq (r .name) ≡ true → find (r .name) s ≡ some k → C (r .name)
   unfolding providers isProvider asRequirement
-  provider-closed st i r k h p f =
-      let x = map-out (λ (m : Descriptor). asRequirement (m .name)) (keep (isProvider (st .resolved) rq) (observable s)) h in
+  provider-closed ms known r k h p f =
+      let x = map-out (λ (m : Descriptor). asRequirement (m .name)) (keep (isProvider ms rq) (observable s)) h in
       let m : Descriptor = x .0 in
-      let y = keep-out (isProvider (st .resolved) rq) (observable s) (x .1) in
-      let uses : Name → Bool = (λ v. any (λ (u : Descriptor). memName v (u .uses)) (st .resolved)) in
+      let y = keep-out (isProvider ms rq) (observable s) (x .1) in
+      let uses : Name → Bool = (λ v. any (λ (u : Descriptor). memName v (u .uses)) ms) in
       let v = any-out uses (m .provides) (and-right (isPermitted rq (m .name)) (any uses (m .provides)) (y .1)) in
-      let u = any-out (λ (w : Descriptor). memName (v .0) (w .uses)) (st .resolved) (v .2) in
-      let su = i .sound (u .0) (u .1) in
+      let u = any-out (λ (w : Descriptor). memName (v .0) (w .uses)) ms (v .2) in
+      let su = known (u .0) (u .1) in
       let name-is : r .name ≡ m .name = ap (λ (z : Requirement). z .name) (x .2) in
-      let known : find (m .name) s ≡ some m = observable-found s m (y .0) in
+      let here : find (m .name) s ≡ some m = observable-found s m (y .0) in
       subst C (sym name-is)
-      (closed .provider (u .0 .name) (u .0) (v .0) (m .name) m (i .front .small (u .0 .name) (u .0) (su .2) (su .1) (su .0)) (su .0)
-      (memName-out (v .0) (u .0 .uses) (u .2)) (and-left (isPermitted rq (m .name)) (any uses (m .provides)) (y .1)) known (v .1))
+      (closed .provider (u .0 .name) (u .0) (v .0) (m .name) m (su .1) (su .0)
+      (memName-out (v .0) (u .0 .uses) (u .2)) (and-left (isPermitted rq (m .name)) (any uses (m .provides)) (y .1)) here (v .1))
 
   round-front : (st : State) → Rest s rq C st → (met : List Name) (q : List Item)
       → enqueue false s provider (providers s rq (st .resolved)) 0 (st .met) [] ≡ enqueued met q → Front s rq C (st .resolved) met q
   round-front st i met q e =
-      enqueue-front s rq C (st .resolved) false provider (providers s rq (st .resolved)) 0 (st .met) [] met q (provider-closed st (i .0))
+      enqueue-front s rq C (st .resolved) false provider (providers s rq (st .resolved)) 0 (st .met) [] met q
+      (provider-closed (st .resolved) (λ u h. let su = i .0 .sound u h in (su .0, i .0 .front .small (u .name) u (su .2) (su .1) (su .0))))
       (subst (λ (z : List Item). Front s rq C (st .resolved) (st .met) z) (i .1) (i .0 .front)) e
 
   pub round-start : (st : State) → Rest s rq C st → (met : List Name) (q : List Item)

@@ -31,5 +31,7 @@ pub mod Words
 pub mod Observed
 pub mod Hidden
 pub mod PackageOwner
+pub mod Refusals
 pub mod Absence
+pub mod Cause
 pub mod Count

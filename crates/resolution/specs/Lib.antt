@@ -16,6 +16,7 @@ pub mod SameResolution
 pub mod Hidden
 pub mod Composed
 pub mod Absent
+pub mod Cause
 pub mod PackageOwner
 pub mod Cases
 -- A search by names that calls itself. proofs/Visit shows that it finds what transitive requirements reach.
