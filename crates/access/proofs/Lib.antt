@@ -7,3 +7,4 @@ pub mod Visible
 pub mod Agree
 pub mod Cases
 pub mod PlaceCases
+pub mod RuleCases

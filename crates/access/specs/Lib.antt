@@ -1,4 +1,5 @@
--- The definitions: verdicts and the graph of reads over any configuration, demand 3, the ten cases and those of places.
+-- The definitions: verdicts and the graph of reads over any configuration, demand 3, the ten cases, those of places and those of the
+-- other rules.
 pub mod Access
 pub mod CanRead
 pub mod ReadGraph
@@ -7,6 +8,8 @@ pub mod Visible
 pub mod Agree
 pub mod Cases
 pub mod PlaceCases
+pub mod Form
+pub mod RuleCases
 -- The forms that the code follows.
 pub mod Members
 pub mod GraphSteps

@@ -1,5 +1,4 @@
--- Cases of places that hide one another (U2), of the definitions over bytes. Those of the check are in the crate `records`
--- (proofs/set/Cases).
+-- Cases of places that hide one another (U2), of the definitions over bytes, a part of `RuleCases`, which has those of the check.
 use mathlib.Core.Path.{_≡_}
 use mathlib.Core.Bool.{true, false}
 use mathlib.Core.List.{List, [], _∷_}
