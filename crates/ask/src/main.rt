@@ -1,11 +1,12 @@
 // Asks whether a module may see a package of another: resolves the files `set` and `request`, and prints the verdict for access
-// and the one for reflection, or the number of the refusal.
+// and the one for reflection, or the number of the refusal; and on standard error the absent module, where one is.
 use access::access::AccessAnswer;
 use access::access::AccessCheckResult;
 use access::access::check_access;
 use access::access::check_reflection_access;
 use libc::STDERR_FILENO;
 use libc::STDOUT_FILENO;
+use messages::tell_absent;
 use resolution::configuration::Configuration;
 use resolution::resolve::Outcome;
 
@@ -47,13 +48,14 @@ fn ask(set: &[u8], request: &[u8], c: Configuration, asker: &[u8], target: &[u8]
     );
 }
 
-fn answer(set: &[u8], request: &[u8], asker: &[u8], target: &[u8], pkg: &[u8]) {
+fn answer<'a>(set: &'a [u8], request: &'a [u8], asker: &[u8], target: &[u8], pkg: &[u8]) {
     let r = resolution::resolve::resolve(set, request);
     let outcome = r.outcome;
     match outcome {
         Outcome::Accepted => ask(set, request, r.configuration, asker, target, pkg),
         Outcome::Refused(e) => refused(e.number()),
     }
+    tell_absent(set, request, outcome);
 }
 
 // The files, and the answer.

@@ -1,5 +1,5 @@
 // Resolves the set and the request in the files `set` and `request`, and prints the configuration, or the number of the refusal; and on
-// standard error which modules are hidden.
+// standard error the absent module, where one is, and which modules are hidden.
 mod hidden;
 mod names;
 
@@ -7,6 +7,7 @@ ghost use Prim.Native.Nat.{_≤_};
 ghost use lib.ListN.{length};
 use hidden::tell_hidden;
 use libc::STDOUT_FILENO;
+use messages::tell_absent;
 use names::in_order;
 use names::module_of;
 use names::place;
@@ -139,7 +140,7 @@ fn list(set: &[u8], c: Configuration)
 }
 
 // The configuration, or the refusal.
-fn answer(set: &[u8], request: &[u8])
+fn answer<'a>(set: &'a [u8], request: &'a [u8])
     requires { ⌜ length (now set) ≤ 65536 ⌝ }
 {
     let r = resolution::resolve::resolve(set, request);
@@ -148,6 +149,7 @@ fn answer(set: &[u8], request: &[u8])
         Outcome::Accepted => list(set, r.configuration),
         Outcome::Refused(e) => number(b"refused ", e.number()),
     }
+    tell_absent(set, request, outcome);
     tell_hidden(set);
 }
 

@@ -1,0 +1,90 @@
+#!/usr/bin/env python3
+"""Writes the cases of tests/programs/run: tests/programs/cases.py FOLDER, at the repository's root.
+
+A case is FOLDER/PROGRAM/CASE, with the files `set` and `request` (those that it has), the arguments in `args`, one to a line, and
+in `stdout` and `stderr` what the program is to write.
+"""
+import os
+import sys
+
+sys.path.insert(0, "tests")
+from form import base, listed, listing, module, name, package, place, record, requires
+
+
+def root(n):
+    return record(b"RT", name(n))
+
+
+core, foot, notes = (module(b"page." + n) for n in (b"core", b"foot", b"notes"))
+of_core, of_foot, of_frames = (root(b"page." + n) for n in (b"core", b"foot", b"frames"))
+reader = listed(b"PV", b"page/Reader", [b"page/Impl"])
+only_core = record(b"LM", (1).to_bytes(2, "big") + name(b"page.core"))
+# page.frames and page.lines are in no set below. page.core requires the first
+without = base + core + requires(b"page.frames")
+# a static requirement queues nothing; both providers are bound in one round, and page.foot is handled first
+bound = (
+    base + core + requires(b"page.lines", 0x40) + record(b"US", name(b"page/Reader"))
+    + foot + requires(b"page.frames") + reader + notes + requires(b"page.lines") + reader
+)
+# page.foot stands in the places 1, 2 and 4
+hiding = base + foot + place + core + foot + place + place + foot
+shared = base + core + package(b"page/foot") + foot + package(b"page/foot")
+long = bytes(65536)
+
+LISTING = open("crates/resolve/stdout").read()
+BASE = "module java.base\nmodule {}\nreads java.base\n"
+ABSENT = "{} is not in the set\n"
+HIDDEN = "page.foot of place 2 is hidden by place 1\npage.foot of place 4 is hidden by place 1\n"
+MISSING = "{}: cannot read the file {}: No such file or directory\n"
+USAGE = "usage: ask ASKER TARGET PACKAGE\n"
+
+# case: set, request, standard output, standard error
+RESOLVE = {
+    "the listing": (listing, of_core, LISTING, ""),
+    "an absent root": (base, of_core, "refused 5\n", ABSENT.format("page.core")),
+    "an absent second root": (base + core, of_core + of_foot, "refused 5\n", ABSENT.format("page.foot")),
+    "an absent requirement": (without, of_core, "refused 5\n", ABSENT.format("page.frames")),
+    "an absent requirement in a round": (bound, of_core, "refused 5\n", ABSENT.format("page.frames")),
+    "an absent requirement that is not permitted": (without, of_core + only_core, "resolved 2\n" + BASE.format("page.core"), ""),
+    "hidden modules": (hiding, of_foot, "resolved 2\n" + BASE.format("page.foot"), HIDDEN),
+    "hidden modules and an absent root": (hiding, of_frames, "refused 5\n", ABSENT.format("page.frames") + HIDDEN),
+    "no java.base": (core, of_core, "refused 6\n", ""),
+    "a package of two modules": (shared, of_core + of_foot, "refused 7\n", ""),
+    "a malformed set": (b"MO", of_core, "refused 1\n", ""),
+    "a set of 65,536 bytes": (long, of_core, "refused 2\n", ""),
+    "a request of 65,536 bytes": (base, long, "refused 2\n", ""),
+    "no set": (None, of_core, "", MISSING.format("resolve", "set")),
+    "no request": (base, None, "", MISSING.format("resolve", "request")),
+    "neither": (None, None, "", MISSING.format("resolve", "set")),
+}
+# case: set, request, arguments, standard output, standard error
+ASK = {
+    "a question": (listing, of_core, "page.core page.frames page/frame", "access NotExported\nreflection NotOpened\n", ""),
+    "an absent root": (base, of_core, "a b p", "refused 5\n", ABSENT.format("page.core")),
+    "an absent requirement": (without, of_core, "a b p", "refused 5\n", ABSENT.format("page.frames")),
+    "no java.base": (core, of_core, "a b p", "refused 6\n", ""),
+    "a package of two modules": (shared, of_core + of_foot, "a b p", "refused 7\n", ""),
+    "a set of 65,536 bytes": (long, of_core, "a b p", "refused 2\n", ""),
+    "a request of 65,536 bytes": (base, long, "a b p", "refused 2\n", ""),
+    "two arguments": (listing, of_core, "page.core page.frames", "", USAGE),
+    "four arguments": (listing, of_core, "a b p q", "", USAGE),
+    "an argument of 4,097 bytes": (listing, of_core, "a" * 4097 + " b p", "", "ask: ASKER: File name too long\n"),
+    "no set": (None, of_core, "a b p", "", MISSING.format("ask", "set")),
+    "no request": (base, None, "a b p", "", MISSING.format("ask", "request")),
+}
+
+
+def write(program, case, s, request, args, stdout, stderr):
+    folder = os.path.join(sys.argv[1], program, case)
+    os.makedirs(folder)
+    texts = {"args": "".join(a + "\n" for a in args.split()), "stdout": stdout, "stderr": stderr}
+    for file, data in {"set": s, "request": request, **{f: t.encode() for f, t in texts.items()}}.items():
+        if data is not None:
+            with open(os.path.join(folder, file), "wb") as out:
+                out.write(data)
+
+
+for case, (s, request, stdout, stderr) in RESOLVE.items():
+    write("resolve", case, s, request, "", stdout, stderr)
+for case, what in ASK.items():
+    write("ask", case, *what)
