@@ -235,15 +235,15 @@ fn entries(s: &System, inputs: &Inputs, c: &ResolvedConfiguration, line: &mut St
     out
 }
 
-/// The words of the original's members and a row for each module, empty for a hidden one.
-fn configuration(inputs: &Inputs, c: &ResolvedConfiguration) -> Vec<u8> {
-    let mut out = Vec::new();
+/// The words of the original's members and a row for each module, empty for a hidden one; and how many edges the rows have.
+fn configuration(inputs: &Inputs, c: &ResolvedConfiguration) -> (Vec<u8>, usize) {
+    let (mut out, mut edges) = (Vec::new(), 0);
     put_row(&mut out, c.modules().map(|m| inputs.position(m.name()).unwrap()));
     for (m, observable) in inputs.modules.iter().zip(inputs.observable()) {
         let member = c.get(m.name()).filter(|_| observable);
-        put_names(&mut out, inputs, &member.map(|m| m.reads().clone()).unwrap_or_default());
+        edges += put_names(&mut out, inputs, &member.map(|m| m.reads().clone()).unwrap_or_default());
     }
-    out
+    (out, edges)
 }
 
 /// The same words for members and edges given.
@@ -332,8 +332,9 @@ impl Out {
             What::Resolved { requirement } => {
                 let (number, answer, asked) = match resolved(s, &inputs) {
                     Ok(c) => {
-                        line += &format!(" resolved {}", c.len());
-                        (0, configuration(&inputs, &c), entries(s, &inputs, &c, &mut line))
+                        let (answer, edges) = configuration(&inputs, &c);
+                        line += &format!(" resolved {} reads {edges}", c.len());
+                        (0, answer, entries(s, &inputs, &c, &mut line))
                     }
                     Err(cause) => {
                         assert!(s.entries.is_empty(), "{}: refused", s.name);

@@ -14,6 +14,7 @@
 // the text of a package and its owner in two bytes (65,535 none); or 2, the text of a name and the rows of readers and of reads.
 mod form;
 mod question;
+mod reads;
 mod refusal;
 mod rows;
 
@@ -25,6 +26,8 @@ use crate::form::row;
 use crate::form::say;
 use crate::form::text;
 use crate::question::ask;
+use crate::reads::edges_of;
+use crate::reads::is_reads;
 use crate::refusal::expect_check;
 use crate::refusal::expect_question;
 use crate::refusal::expect_refusal;
@@ -43,6 +46,14 @@ use resolution::configuration::Configuration;
 use resolution::resolve::Outcome;
 use resolution::row::Row;
 
+// The stored rows give the same words where each edge is added by itself. Tells how many there are.
+fn expect_edges(c: Configuration, rows: &[u8]) {
+    let e = edges_of(rows);
+    say(b" reads");
+    number(e.count);
+    expect(is_reads(c, e.configuration), b"edges");
+}
+
 fn accepted(set: &[u8], request: &[u8], c: Configuration, stored: usize, s: &[u8], entries: &[u8]) {
     say(b" resolved");
     number(resolution::configuration::len(c));
@@ -50,6 +61,7 @@ fn accepted(set: &[u8], request: &[u8], c: Configuration, stored: usize, s: &[u8
     let words = c.members;
     expect(is_row(Row { words }, row(s)), b"members");
     expect(has_rows(c, tail(s, 32)), b"reads");
+    expect_edges(c, tail(s, 32));
     ask(set, request, c, entries);
 }
 
