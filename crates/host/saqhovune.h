@@ -4,11 +4,13 @@
  * first place. Of modules of one name, which stand in different places, the first from the front counts and hides the others. Positions
  * count all modules of the set from 0, hidden ones too; a hidden module is checked like others, and is never a member.
  *
- * A slice is a pointer and a length. Every pointer is not null and is aligned, also that of a slice of length 0. What is written,
- * row and particulars included, overlaps no other argument.
+ * A slice is a pointer and a length. The caller is trusted with this, and nothing of it is checked: every pointer is not null and is
+ * aligned, also that of a slice of length 0, and leads to as many elements as the length or the array's type says; what is written,
+ * row and particulars included, overlaps no other argument; nobody else writes an argument during the call; a bool is 0 or 1; there is
+ * enough stack.
  *
- * Stack, as measured on x86-64: 710 KiB for saqhovune_resolve, 320 KiB for saqhovune_from_class_file, 145 KiB for
- * saqhovune_automatic_from_jar_name, 40 KiB for every other function.
+ * Stack on x86-64, by the frames of the compiled functions and as measured, rounded up: 710 KiB for saqhovune_resolve, 320 KiB for
+ * saqhovune_from_class_file, 145 KiB for saqhovune_automatic_from_jar_name, 40 KiB for every other function.
  *
  * Each function returns 0 for an answer, else the number of a refusal (document 01), and always writes all four words of
  * particulars, unused ones as 0:

@@ -1,0 +1,3 @@
+/* The header alone, twice. */
+#include "saqhovune.h"
+#include "saqhovune.h"
