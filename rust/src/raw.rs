@@ -1,5 +1,5 @@
 //! The C functions of libhost.a, as its header saqhovune.h declares them. A slice is a pointer and a length; an empty Rust
-//! slice has a pointer that is not null and is aligned, as they ask.
+//! slice has a pointer that is not null and is aligned, and a bool is 0 or 1, as they ask.
 
 /// A question of access.
 pub type Question = unsafe extern "C" fn(

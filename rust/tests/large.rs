@@ -4,7 +4,7 @@ mod alike;
 
 use alike::alike;
 use saqhovune::form::*;
-use saqhovune::{Refusal, resolve};
+use saqhovune::{resolve, Refusal};
 
 /// A name of two bytes that tells `i`, in byte order.
 fn short(i: usize) -> String {
