@@ -7,7 +7,7 @@ use Rattle.records.specs.Bytes.{sameBytes, u16At}
 use Rattle.records.specs.Name.{printable, nameOf, afterName, isField, isName, isEmpty, isNames, isList, isVersion, isNameVersion, isNameList, memName, namesOf, listOf}
 use Rattle.records.specs.Record.{markOf, sizeOf, bodyOf, recordMore, whole, recordsFrom, records, markFor, setKind, requestKind, kindIn, isModule, isRequires, isBody, isOf, bodiesIn, bodies}
 use Rattle.records.specs.Descriptor.{hasFlag, requirementOf, entryOf, moduleName, headerOf, descriptorOf, isTarget, reaches}
-use Rattle.records.specs.Request.{isLimit, rowOf, rowOn, checkRecordsFrom, checkRecords, thenRequest, checkInputs, readOf, grantOf, limitOf, requestOf, withinLimit, isPermitted, hasRead, hasGrant}
+use Rattle.records.specs.Request.{sameKind, rowOf, rowOn, checkRecordsFrom, checkRecords, thenRequest, checkInputs, readOf, grantOf, limitOf, hasAny, requestOf, withinLimit, isPermitted, hasRead, hasGrant}
 use Rattle.records.specs.Set.{bodyAt, nameAt, isPlaced, admitAt, passAt, judgeAt, tableOf, accepted, refused as refusedSet, goOn, checkFrom, checkSet, upToNext, blocksOf, blocks, modules}
 use Rattle.records.specs.Finder.{findName, findModule, isAt, isFirst}
 use Rattle.records.specs.declared.set.SetAnswer.{SetAnswer}
@@ -31,7 +31,7 @@ use Rattle.access.specs.declared.access.AccessCheckResult.the-variants.{
 
 -- one line opens all that decoding and the checks compute
 unfoldable pub compute : List ℕ → List ℕ → SetAnswer
-unfolding checkInputs thenRequest checkRecords checkRecordsFrom rowOn rowOf isLimit kindIn requestKind checkSet checkFrom goOn judgeAt passAt admitAt isPlaced accepted refusedSet tableOf nameAt bodyAt moduleName memName isBody isModule isRequires isNameList isNameVersion isVersion isList isNames isName isField isEmpty afterName nameOf printable setKind records recordsFrom whole recordMore bodyOf sizeOf markOf u16At sameBytes modules blocks blocksOf upToNext isOf markFor descriptorOf headerOf bodies bodiesIn hasFlag requirementOf entryOf namesOf listOf limitOf readOf grantOf requestOf withinLimit isPermitted hasRead hasGrant isTarget reaches findName findModule isAt isFirst p a b c
+unfolding checkInputs thenRequest checkRecords checkRecordsFrom rowOn rowOf sameKind kindIn requestKind checkSet checkFrom goOn judgeAt passAt admitAt isPlaced accepted refusedSet tableOf nameAt bodyAt moduleName memName isBody isModule isRequires isNameList isNameVersion isVersion isList isNames isName isField isEmpty afterName nameOf printable setKind records recordsFrom whole recordMore bodyOf sizeOf markOf u16At sameBytes modules blocks blocksOf upToNext isOf markFor descriptorOf headerOf bodies bodiesIn hasFlag requirementOf entryOf namesOf listOf limitOf readOf grantOf hasAny requestOf withinLimit isPermitted hasRead hasGrant isTarget reaches findName findModule isAt isFirst p a b c
 compute s q = checkInputs s q .answer
 
 -- and one all that resolution and a question do

@@ -46,7 +46,7 @@ module _ (s q : List ℕ) (d : Done s q) where
       record {
         base = member-in _ (c .base);
         root = λ n m p. member-in n (c .root n m p);
-        requirement = λ n m r k a f u p g. member-in (r .name) (c .requirement n m r k (member-out n a) f u p g);
+        requirement = λ n m r k a f u l p g. member-in (r .name) (c .requirement n m r k (member-out n a) f u l p g);
         provider = λ n m v x k a f u p g w. member-in x (c .provider n m v x k (member-out n a) f u p g w);
       }
 
@@ -70,6 +70,7 @@ module _ (s₁ q₁ s₂ q₂ : List ℕ) (d₁ : Done s₁ q₁) (d₂ : Done s
     addReads = w .addReads;
     addExports = w .addExports;
     addOpens = w .addOpens;
+    static = w .static;
   }
 
   kept : Kept (requestOf q₁) (d₁ .state .resolved) (requestOf q₂) (d₂ .state .resolved)

@@ -78,6 +78,7 @@ module _ (s q : List ℕ) (n : ℕ) (h : checkInputs s q .answer ≡ Set.Modules
     addReads = λ x m. m;
     addExports = λ x m. m;
     addOpens = λ x m. m;
+    static = λ e. e;
   }
 
   grows-back : Grows v q s q
@@ -88,6 +89,7 @@ module _ (s q : List ℕ) (n : ℕ) (h : checkInputs s q .answer ≡ Set.Modules
     addReads = λ x m. m;
     addExports = λ x m. m;
     addOpens = λ x m. m;
+    static = λ e. e;
   }
 
   module _ (d : Done s q) where

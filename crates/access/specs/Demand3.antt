@@ -47,6 +47,8 @@ pub record Grows (s₁ q₁ s₂ q₂ : List ℕ) : Type 0 where
   pub addReads : (a : Read) → Mem a (requestOf q₁ .addReads) → Mem a (requestOf q₂ .addReads)
   pub addExports : (a : Grant) → Mem a (requestOf q₁ .addExports) → Mem a (requestOf q₂ .addExports)
   pub addOpens : (a : Grant) → Mem a (requestOf q₁ .addOpens) → Mem a (requestOf q₂ .addOpens)
+  -- "A grown request may gain ST but not drop it" (U6)
+  pub static : requestOf q₁ .hasStatic ≡ true → requestOf q₂ .hasStatic ≡ true
 
 -- "the second has, told by names,"
 pub record KeepsAll (s₁ q₁ s₂ q₂ : List ℕ) : Type 0 where
@@ -64,7 +66,8 @@ pub record KeepsAll (s₁ q₁ s₂ q₂ : List ℕ) : Type 0 where
 pub record Demand3 : Type 1 where
   -- "Whatever the set and the request, if accepted: the modules resolved are a set of observable modules that holds java.base,
   -- every permitted root and, with each member, its permitted, observable requirements and all permitted, observable providers of
-  -- services it uses; and they lie inside every other such set." (`Closed` and `Smallest` of the crate `resolution`)
+  -- services it uses; and they lie inside every other such set." (`Closed` and `Smallest` of the crate `resolution`.) "The closure
+  -- leaves static requirements out when ST is missing" (U6)
   pub smallest : (s q : List ℕ) → IsAccepted s q → Smallest (modules s) (requestOf q) (Resolved s q)
   -- "And of any two accepted requests .."
   pub kept : (s₁ q₁ s₂ q₂ : List ℕ) → IsAccepted s₁ q₁ → IsAccepted s₂ q₂ → Grows s₁ q₁ s₂ q₂ → KeepsAll s₁ q₁ s₂ q₂

@@ -99,6 +99,11 @@ unfoldable pub LM : List Name → List ℕ
 unfolding marked list
 LM ns = marked 76 77 (list ns)
 
+-- ST: "a record ST with empty body" (U6)
+unfoldable pub ST : List ℕ
+unfolding marked
+ST = marked 83 84 []
+
 -- AR: source, target
 unfoldable pub AR : Name → Name → List ℕ
 unfolding marked named

@@ -14,7 +14,7 @@ use Rattle.records.specs.declared.record.Step.the-variants.{Record, Bad,
 use Rattle.records.specs.declared.record.Next.{Next}
 use Rattle.records.specs.declared.record.Next.the-variants.{Body, Nothing}
 use Rattle.records.specs.declared.record.Kind.{Kind}
-use Rattle.records.specs.declared.record.Kind.the-variants.{Module, Requires, Exports, Opens, Uses, Provides, Package, MainClass, Place, Root, LimitModules, AddReads, AddExports, AddOpens, Other}
+use Rattle.records.specs.declared.record.Kind.the-variants.{Module, Requires, Exports, Opens, Uses, Provides, Package, MainClass, Place, Root, LimitModules, AddReads, AddExports, AddOpens, Static, Other}
 
 -- ---- the records of a byte string
 
@@ -80,6 +80,7 @@ markFor LimitModules = 0x4C4D
 markFor AddReads = 0x4152
 markFor AddExports = 0x4145
 markFor AddOpens = 0x414F
+markFor Static = 0x5354
 markFor Other = 0
 
 abbrev pub pickKind : Bool → Kind → Kind → Kind
@@ -100,7 +101,7 @@ setKind m =
     (pickKind (eqb m 0x504C) Place
     Other))))))))
 
--- of a request: RT LM AR AE AO
+-- of a request: RT LM AR AE AO ST
 unfoldable pub requestKind : ℕ → Kind
 requestKind m =
     pickKind (eqb m 0x5254) Root
@@ -108,7 +109,8 @@ requestKind m =
     (pickKind (eqb m 0x4152) AddReads
     (pickKind (eqb m 0x4145) AddExports
     (pickKind (eqb m 0x414F) AddOpens
-    Other))))
+    (pickKind (eqb m 0x5354) Static
+    Other)))))
 
 -- of package records: PK
 unfoldable pub packageKind : ℕ → Kind
@@ -144,6 +146,7 @@ isBody LimitModules b = isList b
 isBody AddReads b = isNames 2 b
 isBody AddExports b = isNames 3 b
 isBody AddOpens b = isNames 3 b
+isBody Static b = isNames 0 b
 isBody Other b = false
 
 -- ---- the records of one kind

@@ -8,10 +8,10 @@ use lib.ListN.{length}
 use lib.Dec.{ltb, eqb}
 use Rattle.records.specs.Bytes.{sameBytes}
 use Rattle.records.specs.Name.{javaBase, nameOf, afterName, listOf, memName}
-use Rattle.records.specs.Record.{markOf, bodyOf, records, kindIn, isBody, bodies}
+use Rattle.records.specs.Record.{markOf, bodyOf, records, markFor, kindIn, isBody, bodies}
 use Rattle.records.specs.Set.{pickChecked, refused, checkSet}
 use Rattle.records.specs.declared.record.Kind.{Kind}
-use Rattle.records.specs.declared.record.Kind.the-variants.{Module, Requires, Exports, Opens, Uses, Provides, Package, MainClass, Place, Root, LimitModules, AddReads, AddExports, AddOpens, Other}
+use Rattle.records.specs.declared.record.Kind.the-variants.{Module, Requires, Exports, Opens, Uses, Provides, Package, MainClass, Place, Root, LimitModules, AddReads, AddExports, AddOpens, Static, Other}
 use Rattle.records.specs.declared.error.Input.{Input}
 use Rattle.records.specs.declared.error.Input.the-variants as Input
 use Rattle.records.specs.declared.error.ModuleError.the-variants.{Malformed, TooLarge}
@@ -19,8 +19,9 @@ use Rattle.records.specs.declared.set.Checked.{Checked}
 use Rattle.records.specs.declared.set.SetAnswer.{SetAnswer}
 use Rattle.records.specs.declared.set.SetAnswer.the-variants.{Modules}
 use Rattle.records.specs.declared.set.SetAnswer.the-variants as Set
+use Rattle.records.specs.declared.request.Once.{Once}
 use Rattle.records.specs.declared.request.Row.{Row}
-use Rattle.records.specs.declared.request.Row.the-variants.{Bad, Limit, Pass}
+use Rattle.records.specs.declared.request.Row.the-variants.{Bad, Pass}
 use Rattle.records.specs.declared.request.RecordsAnswer.{RecordsAnswer}
 use Rattle.records.specs.declared.request.RecordsAnswer.the-variants.{Good, Refused}
 
@@ -30,47 +31,39 @@ abbrev pub pickAnswer : Bool → RecordsAnswer → RecordsAnswer → RecordsAnsw
 pickAnswer true a b = a
 pickAnswer false a b = b
 
--- the record is an LM
-unfoldable pub isLimit : Kind → Bool
-isLimit Module = false
-isLimit Requires = false
-isLimit Exports = false
-isLimit Opens = false
-isLimit Uses = false
-isLimit Provides = false
-isLimit Package = false
-isLimit MainClass = false
-isLimit Place = false
-isLimit Root = false
-isLimit LimitModules = true
-isLimit AddReads = false
-isLimit AddExports = false
-isLimit AddOpens = false
-isLimit Other = false
+-- the one kind is the other
+unfoldable pub sameKind : Kind → Kind → Bool
+sameKind k j = eqb (markFor k) (markFor j)
 
 abbrev pub pickRow : Bool → Row → Row → Row
 pickRow true a b = a
 pickRow false a b = b
 
--- a record of kind k and body b, where `limited` says that an LM was passed: its body is well-formed, and it is no second LM
-unfoldable pub rowOf : Bool → Kind → List ℕ → Row
-rowOf limited k b = pickRow (isBody k b && not (limited && isLimit k)) (pickRow (isLimit k) Limit Pass) Bad
+-- neither an LM nor an ST was passed
+abbrev pub noneOnce : Once
+noneOnce = record { limited = false; statics = false }
 
-unfoldable pub rowOn : Row → Bool → RecordsAnswer → (Bool → RecordsAnswer) → RecordsAnswer
-rowOn Bad limited bad f = bad
-rowOn Limit limited bad f = f true
-rowOn Pass limited bad f = f limited
+-- a record of kind k and body b, where o says whether an LM and an ST were passed: its body is well-formed, and it is no second LM
+-- and no second ST ("at most once")
+unfoldable pub rowOf : Once → Kind → List ℕ → Row
+rowOf o k b =
+    pickRow (isBody k b && not ((o .limited && sameKind k LimitModules) || (o .statics && sameKind k Static)))
+    (Pass (record { limited = o .limited || sameKind k LimitModules; statics = o .statics || sameKind k Static }))
+    Bad
+
+unfoldable pub rowOn : Row → RecordsAnswer → (Once → RecordsAnswer) → RecordsAnswer
+rowOn Bad bad f = bad
+rowOn (Pass o) bad f = f o
 
 -- the records from `at` on; the last ends where the input does (1)
-unfoldable pub checkRecordsFrom : Input → ℕ → Bool → ℕ → List (List ℕ) → RecordsAnswer
-checkRecordsFrom i n limited at [] = pickAnswer (eqb at n) Good (Refused (Malformed i at))
-checkRecordsFrom i n limited at (r ∷ rs) =
-    rowOn (rowOf limited (kindIn i (markOf r)) (bodyOf r)) limited (Refused (Malformed i at))
-    (λ limited′. checkRecordsFrom i n limited′ (at + length r) rs)
+unfoldable pub checkRecordsFrom : Input → ℕ → Once → ℕ → List (List ℕ) → RecordsAnswer
+checkRecordsFrom i n o at [] = pickAnswer (eqb at n) Good (Refused (Malformed i at))
+checkRecordsFrom i n o at (r ∷ rs) =
+    rowOn (rowOf o (kindIn i (markOf r)) (bodyOf r)) (Refused (Malformed i at)) (λ o₂. checkRecordsFrom i n o₂ (at + length r) rs)
 
 -- the length first (2), then the records
 unfoldable pub checkRecords : Input → List ℕ → RecordsAnswer
-checkRecords i s = pickAnswer (ltb 65535 (length s)) (Refused (TooLarge 0)) (checkRecordsFrom i (length s) false 0 (records s))
+checkRecords i s = pickAnswer (ltb 65535 (length s)) (Refused (TooLarge 0)) (checkRecordsFrom i (length s) noneOnce 0 (records s))
 
 -- ---- a set and a request
 
@@ -106,6 +99,8 @@ pub record Request : Type 0 where
   pub addReads : List Read
   pub addExports : List Grant
   pub addOpens : List Grant
+  -- there is an ST
+  pub hasStatic : Bool
 
 unfoldable pub readOf : List ℕ → Read
 readOf b = record { source = nameOf b; target = nameOf (afterName b) }
@@ -118,6 +113,11 @@ unfoldable pub limitOf : List (List ℕ) → Option (List (List ℕ))
 limitOf [] = none
 limitOf (b ∷ bs) = some (listOf b)
 
+-- the list is not empty
+unfoldable pub hasAny : List (List ℕ) → Bool
+hasAny [] = false
+hasAny (b ∷ bs) = true
+
 -- what a request says
 unfoldable pub requestOf : List ℕ → Request
 requestOf s = record {
@@ -126,6 +126,7 @@ requestOf s = record {
   addReads = map readOf (bodies AddReads s);
   addExports = map grantOf (bodies AddExports s);
   addOpens = map grantOf (bodies AddOpens s);
+  hasStatic = hasAny (bodies Static s);
 }
 
 -- no LM permits all names

@@ -9,7 +9,7 @@ use Rattle.records.specs.Name.{allUnnamed, memName}
 use Rattle.records.specs.Record.{markOf, sizeOf, bodyOf, records, setKind, isBody, isOf}
 use Rattle.records.specs.Descriptor.{moduleName, Descriptor, descriptorOf}
 use Rattle.records.specs.declared.record.Kind.{Kind}
-use Rattle.records.specs.declared.record.Kind.the-variants.{Module, Requires, Exports, Opens, Uses, Provides, Package, MainClass, Place, Root, LimitModules, AddReads, AddExports, AddOpens, Other}
+use Rattle.records.specs.declared.record.Kind.the-variants.{Module, Requires, Exports, Opens, Uses, Provides, Package, MainClass, Place, Root, LimitModules, AddReads, AddExports, AddOpens, Static, Other}
 use Rattle.records.specs.declared.error.Input.the-variants.{Set}
 use Rattle.records.specs.declared.error.ModuleError.{ModuleError}
 use Rattle.records.specs.declared.error.ModuleError.the-variants.{Malformed, TooLarge, Repeated}
@@ -65,6 +65,7 @@ isPlaced count main LimitModules = false
 isPlaced count main AddReads = false
 isPlaced count main AddExports = false
 isPlaced count main AddOpens = false
+isPlaced count main Static = false
 isPlaced count main Other = false
 
 abbrev pub pickVerdict : Bool → Verdict → Verdict → Verdict
@@ -102,6 +103,7 @@ passAt s p at LimitModules b = Pass
 passAt s p at AddReads b = Pass
 passAt s p at AddExports b = Pass
 passAt s p at AddOpens b = Pass
+passAt s p at Static b = Pass
 passAt s p at Other b = Pass
 
 -- the record at `at`, of kind k and body b

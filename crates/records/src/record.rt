@@ -48,7 +48,7 @@ pub enum Next {
     Nothing,
 }
 
-// The kinds of record. A set has the first nine, a request the next five.
+// The kinds of record. A set has the first nine, a request the next six.
 pub enum Kind {
     Module,
     Requires,
@@ -64,6 +64,7 @@ pub enum Kind {
     AddReads,
     AddExports,
     AddOpens,
+    Static,
     Other,
 }
 
@@ -142,6 +143,7 @@ impl Kind {
             Kind::AddReads => 0x4152,
             Kind::AddExports => 0x4145,
             Kind::AddOpens => 0x414F,
+            Kind::Static => 0x5354,
             Kind::Other => 0,
         }
     }
@@ -175,6 +177,7 @@ pub fn request_kind(mark: usize) -> Kind
         0x4152 => Kind::AddReads,
         0x4145 => Kind::AddExports,
         0x414F => Kind::AddOpens,
+        0x5354 => Kind::Static,
         _ => Kind::Other,
     }
 }
@@ -236,6 +239,7 @@ pub fn is_body(kind: Kind, b: &[u8]) -> bool
         Kind::AddReads => is_names(b, 2),
         Kind::AddExports => is_names(b, 3),
         Kind::AddOpens => is_names(b, 3),
+        Kind::Static => is_names(b, 0),
         Kind::Other => false,
     }
 }

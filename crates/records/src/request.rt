@@ -26,29 +26,46 @@ pub enum RecordsAnswer {
     Refused(ModuleError),
 }
 
+// Which of the records that stand at most once were passed: an LM, an ST.
+pub struct Once {
+    pub limited: bool,
+    pub statics: bool,
+}
+
 // What one record leads to.
 pub enum Row {
     Bad,
-    // The record is an LM.
-    Limit,
-    Pass,
+    // It is passed, and these were.
+    Pass(Once),
 }
 
-// The record with this mark and body, where `limited` says that an LM was passed.
-fn judge(input: Input, limited: bool, mark: usize, body: &[u8]) -> Row
-    ensures { λ r. ⌜ r ≡ rowOf limited (kindIn input mark) (now (body .entry)) ⌝ }
+// The record with this mark and body, after these.
+fn judge(input: Input, once: Once, mark: usize, body: &[u8]) -> Row
+    ensures { λ r. ⌜ r ≡ rowOf once (kindIn input mark) (now (body .entry)) ⌝ }
 {
     let kind = kind_in(input, mark);
     if is_body(kind, body) {
         match kind {
             Kind::LimitModules => {
-                if limited {
+                if once.limited {
                     return Row::Bad;
                 }
-                return Row::Limit;
+                return Row::Pass(Once {
+                    limited: true,
+                    statics: once.statics,
+                });
+            }
+            Kind::Static => {
+                if once.statics {
+                    return Row::Bad;
+                }
+                return Row::Pass(Once {
+                    limited: once.limited,
+                    statics: true,
+                });
             }
             _ => {
-                return Row::Pass;
+                return Row::Pass(once);
             }
         }
     }
@@ -63,7 +80,10 @@ pub fn check_records(input: Input, s: &[u8]) -> RecordsAnswer
         return RecordsAnswer::Refused(ModuleError::TooLarge(0));
     }
     let mut c = Cursor { at: 0 };
-    let mut limited = false;
+    let mut once = Once {
+        limited: false,
+        statics: false,
+    };
     loop {
         let at = c.at;
         match c.step(s) {
@@ -74,14 +94,13 @@ pub fn check_records(input: Input, s: &[u8]) -> RecordsAnswer
                 next,
             } => {
                 c = next;
-                match judge(input, limited, mark, part(s, start, len)) {
+                match judge(input, once, mark, part(s, start, len)) {
                     Row::Bad => {
                         return RecordsAnswer::Refused(ModuleError::Malformed(input, at));
                     }
-                    Row::Limit => {
-                        limited = true;
+                    Row::Pass(passed) => {
+                        once = passed;
                     }
-                    Row::Pass => {}
                 }
             }
             Step::Bad => {
@@ -127,6 +146,21 @@ pub fn is_permitted(request: &[u8], name: &[u8]) -> bool
             next: _,
         } => list_has(part(request, start, len), name),
         Next::Nothing => true,
+    }
+}
+
+// Whether the request has an ST.
+pub fn has_static(request: &[u8]) -> bool
+    ensures { λ r. ⌜ r ≡ requestOf (now (request .entry)) .hasStatic ⌝ }
+{
+    let c = Cursor { at: 0 };
+    match c.next(request, Kind::Static) {
+        Next::Body {
+            start: _,
+            len: _,
+            next: _,
+        } => true,
+        Next::Nothing => false,
     }
 }
 

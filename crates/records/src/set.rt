@@ -73,6 +73,7 @@ fn is_placed(count: usize, main: bool, kind: Kind) -> bool
         Kind::AddReads => false,
         Kind::AddExports => false,
         Kind::AddOpens => false,
+        Kind::Static => false,
         Kind::Other => false,
         _ => 0 < count,
     }

@@ -18,7 +18,7 @@ use Rattle.resolution.specs.Lists.{Mem, Name, any, keep}
 use Rattle.resolution.specs.Loop.{Result, Step, done, fail, failed, go, stop}
 use Rattle.resolution.specs.Owner.{least, shared}
 use Rattle.resolution.specs.Resolution.{Enqueued, Item, Refusal, State, asRequirement, base, baseMet, baseQueue, enqueue, enqueued, find, found, handled, indexOf, isProvider, missing, observable, passed, provider, providers, queueFuel, ran, ranOut, required, resolve, root, round, roundOn, rounds, runQueue, seeds, started, taken, tested, turn}
-use Rattle.resolution.proofs.Enqueue.{enqueue-all, enqueue-mono, met-new}
+use Rattle.resolution.proofs.Enqueue.{enqueue-all, enqueue-mono, met-new, not-static-queues}
 use Rattle.resolution.proofs.Find.{find-mem, has-find}
 use Rattle.resolution.proofs.Observable.{observable-found, found-observable}
 use Rattle.resolution.proofs.Lists.{any-in, any-out, keep-in, keep-out, map-in, map-out, memName-in, memName-out}
@@ -39,17 +39,17 @@ module _ (X : Type 0) (inRound : Bool) (s : List Descriptor) (rq : Request) (e :
   handled-on l (missing n o) h = fail≠stop h
   handled-on l (enqueued a b) h = go≠stop h
 
-  tested-on : (m : Descriptor) (o : Option Name) → tested inRound s ms m met q o ≡ stop → X
+  tested-on : (m : Descriptor) (o : Option Name) → tested inRound s rq ms m met q o ≡ stop → X
   unfolding tested
   tested-on m (some p) h = fail≠stop h
-  tested-on m none h = handled-on (ms ++ (m ∷ [])) (enqueue inRound s (required (indexOf (m .name) s)) (m .requires) 0 met q) h
+  tested-on m none h = handled-on (ms ++ (m ∷ [])) (enqueue inRound s rq (required (indexOf (m .name) s)) (m .requires) 0 met q) h
 
-  found-on : (o : Option Descriptor) → found inRound s e ms met q o ≡ stop → X
+  found-on : (o : Option Descriptor) → found inRound s rq e ms met q o ≡ stop → X
   unfolding found
   found-on none h = fail≠stop h
   found-on (some m) h = tested-on m (least (shared ms m)) h
 
-  passed-on : (b : Bool) → passed inRound s e ms met q b ≡ stop → X
+  passed-on : (b : Bool) → passed inRound s rq e ms met q b ≡ stop → X
   unfolding passed
   passed-on false h = go≠stop h
   passed-on true h = found-on (find (e .name) s) h
@@ -66,13 +66,13 @@ taken-stop inRound s rq ms met (e ∷ q) h = passed-on _ inRound s rq e ms met q
 seeds-root : (s : List Descriptor) (rq : Request) (met : List Name) (q : List Item) (n : Name) → seeds s rq ≡ enqueued met q → Mem n (rq .roots) → memName n met ≡ true
 unfolding seeds asRequirement
 seeds-root s rq met q n e h =
-    enqueue-all false s root (map asRequirement (rq .roots)) 0 (baseMet (memName javaBase (rq .roots))) (baseQueue (memName javaBase (rq .roots))) met q (asRequirement n) e (map-in asRequirement h) (inr refl)
+    enqueue-all false s rq root (map asRequirement (rq .roots)) 0 (baseMet (memName javaBase (rq .roots))) (baseQueue (memName javaBase (rq .roots))) met q (asRequirement n) e (map-in asRequirement h) (not-static-queues s rq (asRequirement n) refl)
 
 -- and java.base too
 pub seeds-base : (s : List Descriptor) (rq : Request) (met : List Name) (q : List Item) → seeds s rq ≡ enqueued met q → memName javaBase met ≡ true
 unfolding seeds baseMet
 seeds-base s rq met q e = by (memName javaBase (rq .roots)) (λ h. seeds-root s rq met q javaBase e (memName-out javaBase (rq .roots) h))
-    (λ h. enqueue-mono false s root (map asRequirement (rq .roots)) 0 (baseMet b) (baseQueue b) met q javaBase e (subst (λ (z : Bool). memName javaBase (baseMet z) ≡ true) (sym h) (met-new javaBase [])))
+    (λ h. enqueue-mono false s rq root (map asRequirement (rq .roots)) 0 (baseMet b) (baseQueue b) met q javaBase e (subst (λ (z : Bool). memName javaBase (baseMet z) ≡ true) (sym h) (met-new javaBase [])))
   where
     b : Bool
     b = memName javaBase (rq .roots)
@@ -115,7 +115,7 @@ module _ (s : List Descriptor) (rq : Request) (C : Name → Type 0) (closed : Cl
 
       front : Front s rq C [] met q
       front = enqueue-front s rq C [] false root (map asRequirement (rq .roots)) 0 (baseMet b) (baseQueue b) met q
-          (λ r m h p f. let x = map-out asRequirement (rq .roots) h in
+          (λ r m h l p f. let x = map-out asRequirement (rq .roots) h in
           subst (λ (z : Requirement). isPermitted rq (z .name) ≡ true → C (z .name)) (sym (x .2)) (closed .root (x .0) (x .1)) p) (first-front b) e
 
   -- a round
@@ -138,17 +138,17 @@ module _ (s : List Descriptor) (rq : Request) (C : Name → Type 0) (closed : Cl
       (memName-out (v .0) (u .0 .uses) (u .2)) (and-left (isPermitted rq (m .name)) (any uses (m .provides)) (y .1)) here (v .1))
 
   round-front : (st : State) → Rest s rq C st → (met : List Name) (q : List Item)
-      → enqueue false s provider (providers s rq (st .resolved)) 0 (st .met) [] ≡ enqueued met q → Front s rq C (st .resolved) met q
+      → enqueue false s rq provider (providers s rq (st .resolved)) 0 (st .met) [] ≡ enqueued met q → Front s rq C (st .resolved) met q
   round-front st i met q e =
       enqueue-front s rq C (st .resolved) false provider (providers s rq (st .resolved)) 0 (st .met) [] met q
-      (provider-closed (st .resolved) (λ u h. let su = i .0 .sound u h in (su .0, i .0 .front .small (u .name) u (su .2) (su .1) (su .0))))
+      (λ r k h l. provider-closed (st .resolved) (λ u h. let su = i .0 .sound u h in (su .0, i .0 .front .small (u .name) u (su .2) (su .1) (su .0))) r k h)
       (subst (λ (z : List Item). Front s rq C (st .resolved) (st .met) z) (i .1) (i .0 .front)) e
 
   pub round-start : (st : State) → Rest s rq C st → (met : List Name) (q : List Item)
-      → enqueue false s provider (providers s rq (st .resolved)) 0 (st .met) [] ≡ enqueued met q
+      → enqueue false s rq provider (providers s rq (st .resolved)) 0 (st .met) [] ≡ enqueued met q
       → Invariant s rq C (record { resolved = st .resolved; met = met; queue = q })
   round-start st i met q e =
-      let grow : (n : Name) → memName n (st .met) ≡ true → memName n met ≡ true = (λ n h. enqueue-mono false s provider (providers s rq (st .resolved)) 0 (st .met) [] met q n e h) in
+      let grow : (n : Name) → memName n (st .met) ≡ true → memName n met ≡ true = (λ n h. enqueue-mono false s rq provider (providers s rq (st .resolved)) 0 (st .met) [] met q n e h) in
       record {
         front = round-front st i met q e;
         sound = λ m h. (i .0 .sound m h .0, i .0 .sound m h .1, grow (m .name) (i .0 .sound m h .2));
@@ -166,7 +166,7 @@ module _ (s : List Descriptor) (rq : Request) (C : Name → Type 0) (closed : Cl
       ended st₂ j (failed a) e k = fail≠go k
       ended st₂ j (done u) e k = run-inv true st₂ t j (e ∙ ap done (cc))
 
-      turned : (r : Enqueued) → enqueue false s provider (providers s rq (st .resolved)) 0 (st .met) [] ≡ r → roundOn s rq (st .resolved) r ≡ go t
+      turned : (r : Enqueued) → enqueue false s rq provider (providers s rq (st .resolved)) 0 (st .met) [] ≡ r → roundOn s rq (st .resolved) r ≡ go t
           → Rest s rq C t
       turned (missing n o) e k = fail≠go k
       turned (enqueued met []) e k = stop≠go k
@@ -189,7 +189,7 @@ module _ (s : List Descriptor) (rq : Request) (C : Name → Type 0) (closed : Cl
 -- ---- demand 3, first half
 
 pub trivial : (s : List Descriptor) (rq : Request) → Closed s rq (λ n. Unit {0})
-trivial s rq = record { base = tt; root = λ n m p. tt; requirement = λ n m r k a b c d e. tt; provider = λ n m v q k a b c d e f. tt }
+trivial s rq = record { base = tt; root = λ n m p. tt; requirement = λ n m r k a b c l d e. tt; provider = λ n m v q k a b c d e f. tt }
 
 pub base-permitted : (rq : Request) → isPermitted rq javaBase ≡ true
 unfolding isPermitted
@@ -225,12 +225,12 @@ module _ (s : List Descriptor) (rq : Request) (t : State) (h : resolve s rq ≡ 
       ended (failed x) z = fail≠stop z
       ended (done x) z = go≠stop z
 
-      turned : (r : Enqueued) → enqueue false s provider (providers s rq (t .resolved)) 0 (t .met) [] ≡ r → roundOn s rq (t .resolved) r ≡ stop
+      turned : (r : Enqueued) → enqueue false s rq provider (providers s rq (t .resolved)) 0 (t .met) [] ≡ r → roundOn s rq (t .resolved) r ≡ stop
           → Member (t .resolved) (k .name)
       turned (missing n o) e z = fail≠stop z
       turned (enqueued met []) e z =
           resolved-of met [] (round-front s rq (λ n. Unit {0}) (trivial s rq) t (fact .0) met [] e) refl (k .name)
-          (unfold asRequirement in enqueue-all false s provider (providers s rq (t .resolved)) 0 (t .met) [] met [] need-it e here (inr refl)) p
+          (unfold asRequirement in enqueue-all false s rq provider (providers s rq (t .resolved)) 0 (t .met) [] met [] need-it e here (not-static-queues s rq need-it refl)) p
       turned (enqueued met (x ∷ q)) e z = ended (runQueue true s rq (record { resolved = t .resolved; met = met; queue = x ∷ q })) z
 
   pub closed-members : Closed s rq (Member (t .resolved))
@@ -238,8 +238,8 @@ module _ (s : List Descriptor) (rq : Request) (t : State) (h : resolve s rq ≡ 
   closed-members = record {
     base = met-in javaBase (fact .0 .0 .base) (base-permitted rq);
     root = λ n m p. met-in n (fact .0 .0 .roots n m) p;
-    requirement = λ n m r k a f u p g. let same : a .0 ≡ m = member n (a .0) m (a .1) (a .2) f in
-        met-in (r .name) (fact .0 .0 .reqs (a .0) r (a .1) (subst (λ (z : Descriptor). Mem r (z .requires)) (sym same) u) (inl (has-find (r .name) s k g))) p;
+    requirement = λ n m r k a f u l p g. let same : a .0 ≡ m = member n (a .0) m (a .1) (a .2) f in
+        met-in (r .name) (fact .0 .0 .reqs (a .0) r (a .1) (subst (λ (z : Descriptor). Mem r (z .requires)) (sym same) u) (l, inl (has-find (r .name) s k g))) p;
     provider = λ n m v q k a f u p g w. let same : a .0 ≡ m = member n (a .0) m (a .1) (a .2) f in
         let x = find-mem q s k g in
         let pk : isPermitted rq (k .name) ≡ true = subst (λ (z : Name). isPermitted rq z ≡ true) (sym (x .1)) p in

@@ -8,7 +8,7 @@ use Rattle.records.specs.Bytes.{sameBytes, u16At}
 use Rattle.records.specs.Name.{printable, nameOf, afterName, isField, isName, isEmpty, isNames, isList, isVersion, isNameVersion, isNameList, memName, javaBase, namesOf, listOf}
 use Rattle.records.specs.Record.{markOf, sizeOf, bodyOf, recordMore, whole, recordsFrom, records, markFor, setKind, requestKind, kindIn, isModule, isRequires, isBody, isOf, bodiesIn, bodies, nthIn}
 use Rattle.records.specs.Descriptor.{Descriptor, hasFlag, requirementOf, entryOf, moduleName, headerOf, descriptorOf}
-use Rattle.records.specs.Request.{isLimit, rowOf, rowOn, checkRecordsFrom, checkRecords, thenRequest, checkInputs, readOf, grantOf, limitOf, requestOf}
+use Rattle.records.specs.Request.{sameKind, rowOf, rowOn, checkRecordsFrom, checkRecords, thenRequest, checkInputs, readOf, grantOf, limitOf, requestOf, hasAny}
 use Rattle.records.specs.Set.{bodyAt, nameAt, isPlaced, admitAt, passAt, judgeAt, tableOf, accepted, refused as refusedSet, goOn, checkFrom, checkSet, upToNext, blocksOf, blocks, modules}
 use Rattle.records.specs.declared.set.SetAnswer.{SetAnswer}
 use Rattle.records.specs.declared.set.SetAnswer.the-variants as Set
@@ -28,11 +28,11 @@ use Rattle.resolution.specs.Cases.{membersOf, readsOf, ownersOf, moduleO
 
 -- one line opens all that decoding and the checks use
 decode : List ℕ → List Descriptor
-unfolding modules blocks blocksOf upToNext isOf markFor descriptorOf headerOf bodies bodiesIn moduleName hasFlag requirementOf entryOf namesOf listOf limitOf readOf grantOf requestOf afterName nameOf records recordsFrom whole recordMore bodyOf sizeOf markOf u16At baseSet listingSet cycleSet listingRequest rootA rootANothingPermitted moduleOf requirement request a b javaLang baseModule cycle pages pageCore pageFoot pageFrames reader footPackage framePackage
+unfolding modules blocks blocksOf upToNext isOf markFor descriptorOf headerOf bodies bodiesIn moduleName hasFlag requirementOf entryOf namesOf listOf limitOf readOf grantOf hasAny requestOf afterName nameOf records recordsFrom whole recordMore bodyOf sizeOf markOf u16At baseSet listingSet cycleSet listingRequest rootA rootANothingPermitted moduleOf requirement request a b javaLang baseModule cycle pages pageCore pageFoot pageFrames reader footPackage framePackage
 decode s = modules s
 
 check : List ℕ → List ℕ → SetAnswer
-unfolding checkInputs thenRequest checkRecords checkRecordsFrom rowOn rowOf isLimit kindIn requestKind checkSet checkFrom goOn judgeAt passAt admitAt isPlaced accepted refusedSet tableOf nameAt bodyAt moduleName memName isBody isModule isRequires isNameList isNameVersion isVersion isList isNames isName isField isEmpty afterName nameOf printable setKind records recordsFrom whole recordMore bodyOf sizeOf markOf u16At sameBytes baseSet listingSet cycleSet listingRequest rootA rootANothingPermitted
+unfolding checkInputs thenRequest checkRecords checkRecordsFrom rowOn rowOf sameKind markFor kindIn requestKind checkSet checkFrom goOn judgeAt passAt admitAt isPlaced accepted refusedSet tableOf nameAt bodyAt moduleName memName isBody isModule isRequires isNameList isNameVersion isVersion isList isNames isName isField isEmpty afterName nameOf printable setKind records recordsFrom whole recordMore bodyOf sizeOf markOf u16At sameBytes baseSet listingSet cycleSet listingRequest rootA rootANothingPermitted
 check s q = checkInputs s q .answer
 
 listing-modules : modules listingSet ≡ pages

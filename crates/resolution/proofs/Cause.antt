@@ -5,7 +5,7 @@ use native.Mathlib.Omega.{arith}
 use mathlib.Core.Bool.{Bool, true, false, cond}
 use mathlib.Core.Option.{some}
 use mathlib.Core.List.{List, [], _∷_, map, List·Memᴰ·head, List·Memᴰ·tail}
-use mathlib.Core.Logic.{⊎-elim}
+use mathlib.Core.Logic.{⊎-elim, _⊎_}
 use lib.ListN.{length, getD, take, drop}
 use Rattle.records.specs.Bytes.{sameBytes}
 use Rattle.records.specs.Name.{memName, nameOf}
@@ -32,7 +32,7 @@ use Rattle.resolution.specs.Absent.{partOf}
 use Rattle.resolution.specs.Cause.{Taken, Reached, from-root, from-requirement, AbsentModule, SharedPackage, Cause, is-checked, is-absent, no-base, is-shared}
 use Rattle.resolution.specs.Closed.{Closed}
 use Rattle.resolution.specs.Positions.{moduleAt}
-use Rattle.resolution.specs.Resolution.{Refusal, State, QueuedBy, base, root, required, provider, find, indexOf, moduleNotFound, javaBaseNotFound, splitPackage, ranOut}
+use Rattle.resolution.specs.Resolution.{Refusal, State, QueuedBy, base, root, required, provider, find, indexOf, moduleNotFound, javaBaseNotFound, splitPackage, ranOut, hasModule}
 use Rattle.resolution.specs.Resolution as Resolution
 use Rattle.resolution.specs.Resolve.{bodyStart, startIn, recordsAt, absentOf, splitOf, errorOf, refused, told, answered, resolve}
 use Rattle.resolution.specs.declared.resolve.Outcome.the-variants.{Refused}
@@ -167,7 +167,7 @@ module _ (s q : List ℕ) (k : ℕ) (h : checkInputs s q .answer ≡ Set.Modules
               by = getD (moduleAt (modules s) m .requires) j (requirementOf []);
               requires = mem-at (moduleAt (modules s) m .requires) j (requirementOf []) (w .stands .within);
               name = w .stands .name;
-              needed = ⊎-elim (λ y. true≠false y (w .absent)) (λ y. y) (w .stands .needed);
+              needed = ⊎-elim (λ y. true≠false y (w .absent)) (λ y. y) (subst (λ (x : Name). (hasModule (modules s) x ≡ true) ⊎ (getD (moduleAt (modules s) m .requires) j (requirementOf []) .static ≡ false)) (w .stands .name) (w .stands .needed .1));
             };
           })
 

@@ -13,7 +13,7 @@ use Rattle.records.specs.Request.{Request, isPermitted}
 use Rattle.resolution.specs.Lists.{Name}
 use Rattle.resolution.specs.Loop.{Step, done, go, mapDone}
 use Rattle.resolution.specs.Owner.{least, shared}
-use Rattle.resolution.specs.Resolution.{Enqueued, Item, Refusal, State, candidates, enqueue, enqueued, find, found, handled, hasModule, indexOf, missing, passed, queueFuel, ranOut, required, runQueue, taken, tested, turn}
+use Rattle.resolution.specs.Resolution.{Enqueued, Item, Refusal, State, candidates, enqueue, enqueued, find, found, handled, hasModule, indexOf, missing, passed, queueFuel, ranOut, required, runQueue, taken, tested, turn, leads}
 use Rattle.resolution.specs.Short.{Lined, Short, empty, lineOf, put, shortHandled, shortOf, shortRun, shortTaken, shortTested, shortTurn}
 use Rattle.resolution.proofs.Accepted.{trivial}
 use Rattle.resolution.proofs.Enqueue.{enqueue-inv}
@@ -35,8 +35,8 @@ module _ (s : List Descriptor) (rq : Request) (inRound : Bool) (old : Name → B
       → Past (t .met)
   past-turned ms met e q t p (skipped x) = p
   past-turned ms met e q t p (took m met₂ q₂ x f l k) =
-      enqueue-inv inRound s (required (indexOf (m .name) s)) (λ mt w. Past mt) (m .requires) 0 met q met₂ q₂
-      (λ r i mt w h new c g lt. past-add s old (r .name) mt (round-observable inRound (hasModule s (r .name)) (r .static) lt c) (g lt)) p k
+      enqueue-inv inRound s rq (required (indexOf (m .name) s)) (λ mt w. Past mt) (m .requires) 0 met q met₂ q₂
+      (λ r i mt w h new c g lt. past-add s old (r .name) mt (round-observable (leads rq r) inRound (hasModule s (r .name)) (r .static) lt c) (g lt)) p k
 
   past-taken : (ms : List Descriptor) (met : List Name) (q : List Item) (t : State) → Past met → taken inRound s rq ms met q ≡ go t → Past (t .met)
   unfolding taken
@@ -67,22 +67,22 @@ module _ (s : List Descriptor) (rq : Request) (inRound : Bool) (old : Name → B
         }
 
     tested-follows : (m : Descriptor) → find (e .name) s ≡ some m → (o : Option Name)
-        → Follows w (shortTested inRound old s rq ms m (lineOf s rq q) o) (tested inRound s ms m met q o)
+        → Follows w (shortTested inRound old s rq ms m (lineOf s rq q) o) (tested inRound s rq ms m met q o)
     unfolding tested shortTested
     tested-follows m f (some p) = refl
     tested-follows m f none =
-        handled-follows (ms ++ (m ∷ [])) _ (enqueue inRound s (required (indexOf (m .name) s)) (m .requires) 0 met q)
+        handled-follows (ms ++ (m ∷ [])) _ (enqueue inRound s rq (required (indexOf (m .name) s)) (m .requires) 0 met q)
         (short-enqueue-view inRound old s rq (required (indexOf (m .name) s)) (ms ++ (m ∷ [])) (m .requires) 0 met q (ready m f))
 
     found-follows : (o : Option Descriptor) → find (e .name) s ≡ o
-        → Follows w (shortTaken inRound old s rq ms (put true o e (lineOf s rq q) .todo) (put true o e (lineOf s rq q) .halt)) (found inRound s e ms met q o)
+        → Follows w (shortTaken inRound old s rq ms (put true o e (lineOf s rq q) .todo) (put true o e (lineOf s rq q) .halt)) (found inRound s rq e ms met q o)
     unfolding found put shortTaken
     found-follows none f = refl
     found-follows (some m) f = tested-follows m f (least (shared ms m))
 
   passed-follows : (ms : List Descriptor) (met : List Name) (e : Item) (q : List Item) → Good (record { resolved = ms; met = met; queue = e ∷ q })
       → (b : Bool)
-      → Follows (record { resolved = ms; line = put b (find (e .name) s) e (lineOf s rq q) }) (shortTaken inRound old s rq ms (put b (find (e .name) s) e (lineOf s rq q) .todo) (put b (find (e .name) s) e (lineOf s rq q) .halt)) (passed inRound s e ms met q b)
+      → Follows (record { resolved = ms; line = put b (find (e .name) s) e (lineOf s rq q) }) (shortTaken inRound old s rq ms (put b (find (e .name) s) e (lineOf s rq q) .todo) (put b (find (e .name) s) e (lineOf s rq q) .halt)) (passed inRound s rq e ms met q b)
   unfolding passed put
   passed-follows ms met e q g false = inl refl
   passed-follows ms met e q g true = found-follows ms met e q g _ (find (e .name) s) refl

@@ -15,7 +15,7 @@ use Rattle.records.proofs.Logic.{by, true≠false}
 use Rattle.resolution.specs.Lists.{Mem, Name, keep}
 use Rattle.resolution.specs.Loop.{Result, Step, done, fail, failed, go, loop, stop}
 use Rattle.resolution.specs.Owner.{least, shared}
-use Rattle.resolution.specs.Resolution.{Enqueued, Item, QueuedBy, Refusal, State, add, asRequirement, baseMet, baseQueue, candidates, choose, enqueue, enqueued, find, found, handled, hasModule, indexOf, isProvider, javaBaseNotFound, missing, observable, moduleNotFound, names, passed, provider, providers, queueFuel, ran, ranOut, required, resolve, root, round, roundOn, rounds, runQueue, seeds, splitPackage, started, taken, tested, turn}
+use Rattle.resolution.specs.Resolution.{Enqueued, Item, QueuedBy, Refusal, State, add, asRequirement, baseMet, baseQueue, candidates, choose, enqueue, enqueued, find, found, handled, hasModule, indexOf, isProvider, javaBaseNotFound, missing, observable, moduleNotFound, names, passed, provider, providers, queueFuel, ran, ranOut, required, resolve, root, round, roundOn, rounds, runQueue, seeds, splitPackage, started, taken, tested, turn, leads}
 use Rattle.resolution.proofs.Enqueue.{count, enqueue-inv, enqueue-mono, enqueue-size, fresh, fresh-lt, item, met-new, met-old}
 use Rattle.resolution.proofs.Find.{find-mem}
 use Rattle.resolution.proofs.Observable.{observable-mem}
@@ -54,21 +54,21 @@ module _ (X : Type 0) (inRound : Bool) (s : List Descriptor) (rq : Request) (e :
   handled-out l (missing n o) h = absent≠out h
   handled-out l (enqueued a b) h = go≠fail h
 
-  tested-out : (m : Descriptor) (o : Option Name) → tested inRound s ms m met q o ≡ fail ranOut → X
+  tested-out : (m : Descriptor) (o : Option Name) → tested inRound s rq ms m met q o ≡ fail ranOut → X
   unfolding tested
   tested-out m (some p) h = split≠out h
-  tested-out m none h = handled-out (ms ++ (m ∷ [])) (enqueue inRound s (required (indexOf (m .name) s)) (m .requires) 0 met q) h
+  tested-out m none h = handled-out (ms ++ (m ∷ [])) (enqueue inRound s rq (required (indexOf (m .name) s)) (m .requires) 0 met q) h
 
   missing-out : (b : Bool) → _≡_ {A = Step State Refusal} (fail (cond b javaBaseNotFound (moduleNotFound (e .name) (e .by)))) (fail ranOut) → X
   missing-out true h = absurd (let z : _≡_ {A = ℕ} 0 1 = cc in omega arith)
   missing-out false h = absent≠out h
 
-  found-out : (o : Option Descriptor) → found inRound s e ms met q o ≡ fail ranOut → X
+  found-out : (o : Option Descriptor) → found inRound s rq e ms met q o ≡ fail ranOut → X
   unfolding found
   found-out none h = missing-out (sameBytes (e .name) javaBase) h
   found-out (some m) h = tested-out m (least (shared ms m)) h
 
-  passed-out : (b : Bool) → passed inRound s e ms met q b ≡ fail ranOut → X
+  passed-out : (b : Bool) → passed inRound s rq e ms met q b ≡ fail ranOut → X
   unfolding passed
   passed-out false h = go≠fail h
   passed-out true h = found-out (find (e .name) s) h
@@ -104,7 +104,7 @@ module _ (s : List Descriptor) (rq : Request) where
   unfolding size
   turned-falls inRound ms met e q t (skipped p) = omega arith
   turned-falls inRound ms met e q t (took m met₂ q₂ p f l k) =
-      omega (arith, enqueue-size inRound s (required (indexOf (m .name) s)) (candidates s rq) (m .requires) 0 met q met₂ q₂ (λ r h. in-req m r (find-mem (e .name) s m f .0) h) k)
+      omega (arith, enqueue-size inRound s rq (required (indexOf (m .name) s)) (candidates s rq) (m .requires) 0 met q met₂ q₂ (λ r h. in-req m r (find-mem (e .name) s m f .0) h) k)
 
   taken-falls : (inRound : Bool) (ms : List Descriptor) (met : List Name) (q : List Item) (t : State) → taken inRound s rq ms met q ≡ go t
       → size t < length q + fresh (candidates s rq) met
@@ -123,7 +123,7 @@ module _ (s : List Descriptor) (rq : Request) where
   turned-grows : (inRound : Bool) (ms : List Descriptor) (met : List Name) (e : Item) (q : List Item) (t : State) (x : Name)
       → Turned inRound s rq ms met e q t → memName x met ≡ true → memName x (t .met) ≡ true
   turned-grows inRound ms met e q t x (skipped p) h = h
-  turned-grows inRound ms met e q t x (took m met₂ q₂ p f l k) h = enqueue-mono inRound s (required (indexOf (m .name) s)) (m .requires) 0 met q met₂ q₂ x k h
+  turned-grows inRound ms met e q t x (took m met₂ q₂ p f l k) h = enqueue-mono inRound s rq (required (indexOf (m .name) s)) (m .requires) 0 met q met₂ q₂ x k h
 
   taken-grows : (inRound : Bool) (ms : List Descriptor) (met : List Name) (q : List Item) (t : State) (x : Name) → taken inRound s rq ms met q ≡ go t
       → memName x met ≡ true → memName x (t .met) ≡ true
@@ -148,13 +148,13 @@ module _ (s : List Descriptor) (rq : Request) where
   News : List Name → List Name → List Item → Type 0
   News met mt w = ((x : Name) → memName x met ≡ true → memName x mt ≡ true) × ((a : Item) → Mem a w → (memName (a .name) met ≡ false) × Mem (a .name) (names s) × (memName (a .name) mt ≡ true))
 
-  news : (ms : List Descriptor) (met met₂ : List Name) (q : List Item) → enqueue false s provider (providers s rq ms) 0 met [] ≡ enqueued met₂ q
+  news : (ms : List Descriptor) (met met₂ : List Name) (q : List Item) → enqueue false s rq provider (providers s rq ms) 0 met [] ≡ enqueued met₂ q
       → News met met₂ q
   unfolding News
-  news ms met met₂ q e = enqueue-inv false s provider (News met) (providers s rq ms) 0 met [] met₂ q adds (λ x h. h, λ a h. absurd (List·Memᴰ·not-nil h)) e
+  news ms met met₂ q e = enqueue-inv false s rq provider (News met) (providers s rq ms) 0 met [] met₂ q adds (λ x h. h, λ a h. absurd (List·Memᴰ·not-nil h)) e
     where
       adds : (r : Requirement) (i : ℕ) (mt : List Name) (w : List Item) → Mem r (providers s rq ms) → memName (r .name) mt ≡ false
-          → choose false false (hasModule s (r .name)) (r .static) ≡ add → News met mt w
+          → choose (leads rq r) false false (hasModule s (r .name)) (r .static) ≡ add → News met mt w
           → News met (r .name ∷ mt) (w ++ (item (r .name) (provider i) ∷ []))
       adds r i mt w h new g p =
           let y = providers-in ms r h in (
@@ -172,7 +172,7 @@ module _ (s : List Descriptor) (rq : Request) where
   round-falls st t h = turned _ refl h
     where
       ended : (met : List Name) (a : Item) (q : List Item)
-          → enqueue false s provider (providers s rq (st .resolved)) 0 (st .met) [] ≡ enqueued met (a ∷ q)
+          → enqueue false s rq provider (providers s rq (st .resolved)) 0 (st .met) [] ≡ enqueued met (a ∷ q)
           → (r : Result State Refusal) → runQueue true s rq (record { resolved = st .resolved; met = met; queue = a ∷ q }) ≡ r → ran r ≡ go t → fresh (names s) (t .met) < fresh (names s) (st .met)
       ended met a q e (failed x) u k = fail≠go k
       ended met a q e (done w) u k =
@@ -181,7 +181,7 @@ module _ (s : List Descriptor) (rq : Request) where
           let on : (x : Name) → memName x met ≡ true → memName x (t .met) ≡ true = (λ x b. run-grows true (record { resolved = st .resolved; met = met; queue = a ∷ q }) t x (u ∙ ap done (cc)) b) in
           fresh-lt (st .met) (t .met) (f .1) (f .0) (on (a .name) (f .2)) (λ x b. on x (n .0 x b))
 
-      turned : (r : Enqueued) → enqueue false s provider (providers s rq (st .resolved)) 0 (st .met) [] ≡ r → roundOn s rq (st .resolved) r ≡ go t
+      turned : (r : Enqueued) → enqueue false s rq provider (providers s rq (st .resolved)) 0 (st .met) [] ≡ r → roundOn s rq (st .resolved) r ≡ go t
           → fresh (names s) (t .met) < fresh (names s) (st .met)
       turned (missing n o) e k = fail≠go k
       turned (enqueued met []) e k = stop≠go k
@@ -189,11 +189,11 @@ module _ (s : List Descriptor) (rq : Request) where
 
   -- what is queued and what is fresh are no more than the candidates, wherever a run begins
   pub round-size : (ms : List Descriptor) (met met₂ : List Name) (q : List Item)
-      → enqueue false s provider (providers s rq ms) 0 met [] ≡ enqueued met₂ q → length q + fresh (candidates s rq) met₂ ≤ length (candidates s rq)
+      → enqueue false s rq provider (providers s rq ms) 0 met [] ≡ enqueued met₂ q → length q + fresh (candidates s rq) met₂ ≤ length (candidates s rq)
   round-size ms met met₂ q e =
       omega (
         arith,
-        enqueue-size false s provider (candidates s rq) (providers s rq ms) 0 met [] met₂ q
+        enqueue-size false s rq provider (candidates s rq) (providers s rq ms) 0 met [] met₂ q
             (λ r h. let y = providers-in ms r h in Memᴰ·cast (y .2) (in-mod (y .0) (observable-mem s (y .0) (y .1)))) e,
         fresh-length (candidates s rq) met,
       )
@@ -203,12 +203,12 @@ module _ (s : List Descriptor) (rq : Request) where
   round-out st h = turned _ refl h
     where
       ended : (met : List Name) (a : Item) (q : List Item)
-          → enqueue false s provider (providers s rq (st .resolved)) 0 (st .met) [] ≡ enqueued met (a ∷ q)
+          → enqueue false s rq provider (providers s rq (st .resolved)) 0 (st .met) [] ≡ enqueued met (a ∷ q)
           → (r : Result State Refusal) → runQueue true s rq (record { resolved = st .resolved; met = met; queue = a ∷ q }) ≡ r → ran r ≡ fail ranOut → ⊥
       ended met a q e (failed x) u k = queue-fuel true (record { resolved = st .resolved; met = met; queue = a ∷ q }) (round-size (st .resolved) (st .met) met (a ∷ q) e) (u ∙ ap failed (cc))
       ended met a q e (done w) u k = go≠fail k
 
-      turned : (r : Enqueued) → enqueue false s provider (providers s rq (st .resolved)) 0 (st .met) [] ≡ r
+      turned : (r : Enqueued) → enqueue false s rq provider (providers s rq (st .resolved)) 0 (st .met) [] ≡ r
           → roundOn s rq (st .resolved) r ≡ fail ranOut → ⊥
       turned (missing n o) e k = absent≠out k
       turned (enqueued met []) e k = stop≠fail k
@@ -244,7 +244,7 @@ module _ (s : List Descriptor) (rq : Request) where
       omega (
         arith,
         base-size b,
-        enqueue-size false s root (candidates s rq) (map asRequirement (rq .roots)) 0 (baseMet b) (baseQueue b) met q
+        enqueue-size false s rq root (candidates s rq) (map asRequirement (rq .roots)) 0 (baseMet b) (baseQueue b) met q
             (λ r h. let x = map-out asRequirement (rq .roots) h in Memᴰ·cast (ap (λ (z : Requirement). z .name) (x .2)) (in-root (x .0) (x .1))) e,
       )
     where

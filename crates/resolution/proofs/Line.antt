@@ -14,7 +14,7 @@ use Rattle.records.specs.Request.{Request, isPermitted}
 use Rattle.records.proofs.Logic.{and-both, and-left, and-right, by, not-of-false, or-cases, or-left, or-right, true≠false}
 use Rattle.resolution.specs.Closed.{Member}
 use Rattle.resolution.specs.Lists.{Mem, Name, any}
-use Rattle.resolution.specs.Resolution.{Choice, Enqueued, Item, QueuedBy, add, choose, enqueue, enqueueNext, enqueued, find, hasModule, missing, pass, refuse}
+use Rattle.resolution.specs.Resolution.{Choice, Enqueued, Item, QueuedBy, add, choose, enqueue, enqueueNext, enqueued, find, hasModule, missing, pass, refuse, leads}
 use Rattle.resolution.specs.Short.{Line, Lined, empty, fault, isMet, lineOf, lined, push, pushed, put, shortEnqueue, shortNext}
 use Rattle.resolution.proofs.Enqueue.{item, met-old}
 use Rattle.resolution.proofs.Find.{find-mem}
@@ -164,26 +164,27 @@ past-add s old n met h past x ns =
     let e : sameBytes n x ≡ false = by (sameBytes n x) (λ k. true≠false h (subst (λ (z : Name). hasModule s z ≡ false) (same→ x n k) ns)) (λ k. k) in
     rw e (past x ns)
 
-pub round-observable : (l b d : Bool) → l ≡ true → choose l false b d ≡ add → b ≡ true
+pub round-observable : (x l b d : Bool) → l ≡ true → choose x l false b d ≡ add → b ≡ true
 unfolding choose
-round-observable l true d k w = refl
-round-observable l false true k w = absurd (let z : _≡_ {A = ℕ} 0 1 = cc in omega arith)
-round-observable true false false k w = absurd (let z : _≡_ {A = ℕ} 0 1 = cc in omega arith)
-round-observable false false false k w = true≠false k refl
+round-observable x l true d k w = refl
+round-observable false l false d k w = absurd (let z : _≡_ {A = ℕ} 0 1 = cc in omega arith)
+round-observable true l false true k w = absurd (let z : _≡_ {A = ℕ} 0 1 = cc in omega arith)
+round-observable true true false false k w = absurd (let z : _≡_ {A = ℕ} 0 1 = cc in omega arith)
+round-observable true false false false k w = true≠false k refl
 
 -- what is queued keeps what the queueings rest on
-ready-add : (inRound : Bool) (old : Name → Bool) (s : List Descriptor) (rq : Request) (ms : List Descriptor) (met : List Name) (q : List Item) (n : Name) (o : QueuedBy) (static : Bool)
-    → choose inRound false (hasModule s n) static ≡ add → Ready inRound old s rq ms met q → Ready inRound old s rq ms (n ∷ met) (q ++ (item n o ∷ []))
-ready-add inRound old s rq ms met q n o static c r =
+ready-add : (inRound : Bool) (old : Name → Bool) (s : List Descriptor) (rq : Request) (ms : List Descriptor) (met : List Name) (q : List Item) (n : Name) (o : QueuedBy) (lead static : Bool)
+    → choose lead inRound false (hasModule s n) static ≡ add → Ready inRound old s rq ms met q → Ready inRound old s rq ms (n ∷ met) (q ++ (item n o ∷ []))
+ready-add inRound old s rq ms met q n o lead static c r =
     record {
       front = front-add s rq Whatever ms n o met q (λ m p f. tt) (r .front);
       resolvedMet = λ m h. met-old (m .name) n met (r .resolvedMet m h);
-      past = λ lt. past-add s old n met (round-observable inRound (hasModule s n) static lt c) (r .past lt);
+      past = λ lt. past-add s old n met (round-observable lead inRound (hasModule s n) static lt c) (r .past lt);
     }
 
 module _ (inRound : Bool) (old : Name → Bool) (s : List Descriptor) (rq : Request) (byOf : ℕ → QueuedBy) (ms : List Descriptor) where
   pub short-enqueue-view : (rs : List Requirement) (j : ℕ) (met : List Name) (q : List Item) → Ready inRound old s rq ms met q
-      → shortEnqueue inRound old s rq byOf ms rs j (lineOf s rq q) ≡ view s rq (enqueue inRound s byOf rs j met q)
+      → shortEnqueue inRound old s rq byOf ms rs j (lineOf s rq q) ≡ view s rq (enqueue inRound s rq byOf rs j met q)
   unfolding shortEnqueue enqueue
   short-enqueue-view [] j met q r = unfold view in refl
   short-enqueue-view (x ∷ rs) j met q r =
@@ -196,31 +197,32 @@ module _ (inRound : Bool) (old : Name → Bool) (s : List Descriptor) (rq : Requ
       l = lineOf s rq q
 
       Below : Type 0
-      Below = (mt : List Name) (w : List Item) → Ready inRound old s rq ms mt w → shortEnqueue inRound old s rq byOf ms rs (suc j) (lineOf s rq w) ≡ view s rq (enqueue inRound s byOf rs (suc j) mt w)
+      Below = (mt : List Name) (w : List Item) → Ready inRound old s rq ms mt w → shortEnqueue inRound old s rq byOf ms rs (suc j) (lineOf s rq w) ≡ view s rq (enqueue inRound s rq byOf rs (suc j) mt w)
 
       left : Choice → Lined
       left c = shortNext rq s c n (byOf j) l (λ l₂. shortEnqueue inRound old s rq byOf ms rs (suc j) l₂)
 
       right : Choice → Lined
-      right c = view s rq (enqueueNext c n (byOf j) met q (λ m₂ q₂. enqueue inRound s byOf rs (suc j) m₂ q₂))
+      right c = view s rq (enqueueNext c n (byOf j) met q (λ m₂ q₂. enqueue inRound s rq byOf rs (suc j) m₂ q₂))
 
       -- the same choice
-      same : (c : Choice) → choose inRound false (hasModule s n) (x .static) ≡ c → Below → left c ≡ right c
+      same : (c : Choice) → choose (leads rq x) inRound false (hasModule s n) (x .static) ≡ c → Below → left c ≡ right c
       same pass e below = below met q r
-      same add e below = rw (← (line-append s rq q (item n (byOf j)))) (below (n ∷ met) (q ++ (item n (byOf j) ∷ [])) (ready-add inRound old s rq ms met q n (byOf j) (x .static) e r))
+      same add e below = rw (← (line-append s rq q (item n (byOf j)))) (below (n ∷ met) (q ++ (item n (byOf j) ∷ [])) (ready-add inRound old s rq ms met q n (byOf j) (leads rq x) (x .static) e r))
       same refuse e below = unfold view in refl
 
       -- met, and neither resolved nor waiting
-      idle : (lt ns st : Bool) → inRound ≡ lt → hasModule s n ≡ ns → memName n met ≡ true → isMet inRound old s ms l n ≡ false → Below
-          → left (choose lt false ns st) ≡ right pass
-      idle lt true st u v h k below = rw (push-none inRound old s rq ms met q n (byOf j) r h k) (below met q r)
-      idle lt false true u v h k below = below met q r
-      idle true false false u v h k below = absurd (past-met inRound old s rq ms met q n r u v h k)
-      idle false false false u v h k below = rw (push-none inRound old s rq ms met q n (byOf j) r h k) (below met q r)
+      idle : (y lt ns st : Bool) → inRound ≡ lt → hasModule s n ≡ ns → memName n met ≡ true → isMet inRound old s ms l n ≡ false → Below
+          → left (choose y lt false ns st) ≡ right pass
+      idle false lt ns st u v h k below = below met q r
+      idle true lt true st u v h k below = rw (push-none inRound old s rq ms met q n (byOf j) r h k) (below met q r)
+      idle true lt false true u v h k below = below met q r
+      idle true true false false u v h k below = absurd (past-met inRound old s rq ms met q n r u v h k)
+      idle true false false false u v h k below = rw (push-none inRound old s rq ms met q n (byOf j) r h k) (below met q r)
 
       turned : (a b : Bool) → memName n met ≡ a → isMet inRound old s ms l n ≡ b → Below
-          → left (choose inRound b (hasModule s n) (x .static)) ≡ right (choose inRound a (hasModule s n) (x .static))
+          → left (choose (leads rq x) inRound b (hasModule s n) (x .static)) ≡ right (choose (leads rq x) inRound a (hasModule s n) (x .static))
       turned true true h k below = below met q r
-      turned true false h k below = idle inRound (hasModule s n) (x .static) refl refl h k below
+      turned true false h k below = idle (leads rq x) inRound (hasModule s n) (x .static) refl refl h k below
       turned false true h k below = true≠false k (not-met inRound old s rq ms met q n r h)
-      turned false false h k below = same (choose inRound false (hasModule s n) (x .static)) refl below
+      turned false false h k below = same (choose (leads rq x) inRound false (hasModule s n) (x .static)) refl below

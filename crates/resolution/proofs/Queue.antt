@@ -14,8 +14,8 @@ use Rattle.resolution.specs.Closed.{Closed, Member}
 use Rattle.resolution.specs.Lists.{Mem, Name, any, keep}
 use Rattle.resolution.specs.Loop.{go}
 use Rattle.resolution.specs.Owner.{least, lesser, shared}
-use Rattle.resolution.specs.Resolution.{Enqueued, Item, QueuedBy, State, enqueue, enqueued, find, found, handled, hasModule, indexOf, missing, passed, required, taken, tested, turn}
-use Rattle.resolution.proofs.Enqueue.{enqueue-all, enqueue-inv, enqueue-mono, item, met-cases, met-new, met-old}
+use Rattle.resolution.specs.Resolution.{Enqueued, Item, QueuedBy, State, enqueue, enqueued, find, found, handled, hasModule, indexOf, missing, passed, required, taken, tested, turn, leads}
+use Rattle.resolution.proofs.Enqueue.{Queues, add-leads, enqueue-all, enqueue-inv, enqueue-mono, item, met-cases, met-new, met-old}
 use Rattle.resolution.proofs.Find.{find-mem}
 use Rattle.resolution.proofs.Lists.{any-in, keep-in, memName-in}
 use Rattle.resolution.proofs.Loop.{fail≠go, stop≠go}
@@ -35,8 +35,7 @@ pub record Invariant (s : List Descriptor) (rq : Request) (C : Name → Type 0) 
       → (find (m .name) s ≡ some m) × (isPermitted rq (m .name) ≡ true) × (memName (m .name) (st .met) ≡ true)
   pub base : memName javaBase (st .met) ≡ true
   pub roots : (n : Name) → Mem n (rq .roots) → memName n (st .met) ≡ true
-  pub reqs : (m : Descriptor) (r : Requirement) → Mem m (st .resolved) → Mem r (m .requires) → (hasModule s (r .name) ≡ true) ⊎ (r .static ≡ false)
-      → memName (r .name) (st .met) ≡ true
+  pub reqs : (m : Descriptor) (r : Requirement) → Mem m (st .resolved) → Mem r (m .requires) → Queues s rq r → memName (r .name) (st .met) ≡ true
   pub apart : (m k : Descriptor) (p : Name) → Mem m (st .resolved) → Mem k (st .resolved) → Mem p (m .packages) → Mem p (k .packages) → m ≡ k
 
 -- one more name in the queue
@@ -59,10 +58,10 @@ front-add s rq C ms n o mt w inC g =
 
 -- queueing keeps the front, where what it queues is in C
 pub enqueue-front : (s : List Descriptor) (rq : Request) (C : Name → Type 0) (ms : List Descriptor) (inRound : Bool) (byOf : ℕ → QueuedBy) (rs : List Requirement) (j : ℕ) (met : List Name) (q : List Item) (met₂ : List Name) (q₂ : List Item)
-    → ((r : Requirement) (m : Descriptor) → Mem r rs → isPermitted rq (r .name) ≡ true → find (r .name) s ≡ some m → C (r .name))
-    → Front s rq C ms met q → enqueue inRound s byOf rs j met q ≡ enqueued met₂ q₂ → Front s rq C ms met₂ q₂
+    → ((r : Requirement) (m : Descriptor) → Mem r rs → leads rq r ≡ true → isPermitted rq (r .name) ≡ true → find (r .name) s ≡ some m → C (r .name))
+    → Front s rq C ms met q → enqueue inRound s rq byOf rs j met q ≡ enqueued met₂ q₂ → Front s rq C ms met₂ q₂
 enqueue-front s rq C ms inRound byOf rs j met q met₂ q₂ inC f e =
-    enqueue-inv inRound s byOf (λ mt w. Front s rq C ms mt w) rs j met q met₂ q₂ (λ r i mt w m new c g. front-add s rq C ms (r .name) (byOf i) mt w (λ k. inC r k m) g) f e
+    enqueue-inv inRound s rq byOf (λ mt w. Front s rq C ms mt w) rs j met q met₂ q₂ (λ r i mt w m new c g. front-add s rq C ms (r .name) (byOf i) mt w (λ k. inC r k m (add-leads (leads rq r) inRound (hasModule s (r .name)) (r .static) c)) g) f e
 
 -- the first of the queue is resolved
 pub front-take : (s : List Descriptor) (rq : Request) (C : Name → Type 0) (ms : List Descriptor) (met : List Name) (e : Item) (q : List Item) (m : Descriptor)
@@ -84,29 +83,29 @@ pub data Turned (inRound : Bool) (s : List Descriptor) (rq : Request) (ms : List
   skipped : isPermitted rq (e .name) ≡ false → Turned inRound s rq ms met e q (record { resolved = ms; met = met; queue = q })
   took : (m : Descriptor) (met₂ : List Name) (q₂ : List Item) → isPermitted rq (e .name) ≡ true → find (e .name) s ≡ some m
       → least (shared ms m) ≡ none
-      → enqueue inRound s (required (indexOf (m .name) s)) (m .requires) 0 met q ≡ enqueued met₂ q₂
+      → enqueue inRound s rq (required (indexOf (m .name) s)) (m .requires) 0 met q ≡ enqueued met₂ q₂
       → Turned inRound s rq ms met e q (record { resolved = ms ++ (m ∷ []); met = met₂; queue = q₂ })
 
 module _ (inRound : Bool) (s : List Descriptor) (rq : Request) (ms : List Descriptor) (met : List Name) (e : Item) (q : List Item) (t : State) where
   handled-inv : (m : Descriptor) → isPermitted rq (e .name) ≡ true → find (e .name) s ≡ some m → least (shared ms m) ≡ none
-      → (r : Enqueued) → enqueue inRound s (required (indexOf (m .name) s)) (m .requires) 0 met q ≡ r → handled (ms ++ (m ∷ [])) r ≡ go t → Turned inRound s rq ms met e q t
+      → (r : Enqueued) → enqueue inRound s rq (required (indexOf (m .name) s)) (m .requires) 0 met q ≡ r → handled (ms ++ (m ∷ [])) r ≡ go t → Turned inRound s rq ms met e q t
   unfolding handled
   handled-inv m p f l (missing n o) k h = fail≠go h
   handled-inv m p f l (enqueued met₂ q₂) k h = subst (λ (z : State). Turned inRound s rq ms met e q z) (cc) (took m met₂ q₂ p f l k)
 
   tested-inv : (m : Descriptor) → isPermitted rq (e .name) ≡ true → find (e .name) s ≡ some m
-      → (o : Option Name) → least (shared ms m) ≡ o → tested inRound s ms m met q o ≡ go t → Turned inRound s rq ms met e q t
+      → (o : Option Name) → least (shared ms m) ≡ o → tested inRound s rq ms m met q o ≡ go t → Turned inRound s rq ms met e q t
   unfolding tested
   tested-inv m p f (some x) l h = fail≠go h
   tested-inv m p f none l h = handled-inv m p f l _ refl h
 
-  found-inv : isPermitted rq (e .name) ≡ true → (o : Option Descriptor) → find (e .name) s ≡ o → found inRound s e ms met q o ≡ go t
+  found-inv : isPermitted rq (e .name) ≡ true → (o : Option Descriptor) → find (e .name) s ≡ o → found inRound s rq e ms met q o ≡ go t
       → Turned inRound s rq ms met e q t
   unfolding found
   found-inv p none f h = fail≠go h
   found-inv p (some m) f h = tested-inv m p f (least (shared ms m)) refl h
 
-  pub passed-inv : (b : Bool) → isPermitted rq (e .name) ≡ b → passed inRound s e ms met q b ≡ go t → Turned inRound s rq ms met e q t
+  pub passed-inv : (b : Bool) → isPermitted rq (e .name) ≡ b → passed inRound s rq e ms met q b ≡ go t → Turned inRound s rq ms met e q t
   unfolding passed
   passed-inv false p h = subst (λ (z : State). Turned inRound s rq ms met e q z) (cc) (skipped p)
   passed-inv true p h = found-inv p (find (e .name) s) refl h
@@ -158,7 +157,7 @@ module _ (s : List Descriptor) (rq : Request) (C : Name → Type 0) (closed : Cl
         base = grow javaBase (i .base);
         roots = λ n h. grow n (i .roots n h);
         reqs = λ a r h u v. ⊎-elim (λ x. grow (r .name) (i .reqs a r x u v))
-            (λ x. enqueue-all inRound s byOf (m .requires) 0 met q met₂ q₂ r k (subst (λ (z : Descriptor). Mem r (z .requires)) (List·Memᴰ·eq-of-singleton x) u) v)
+            (λ x. enqueue-all inRound s rq byOf (m .requires) 0 met q met₂ q₂ r k (subst (λ (z : Descriptor). Mem r (z .requires)) (List·Memᴰ·eq-of-singleton x) u) v)
             (List·Memᴰ·append-cases ms h);
         apart = λ a b x ha hb pa pb. ⊎-elim
             (λ oa. ⊎-elim (λ ob. i .apart a b x oa ob pa pb)
@@ -181,7 +180,7 @@ module _ (s : List Descriptor) (rq : Request) (C : Name → Type 0) (closed : Cl
       Sound a = (find (a .name) s ≡ some a) × (isPermitted rq (a .name) ≡ true) × (memName (a .name) met₂ ≡ true)
 
       grow : (n : Name) → memName n met ≡ true → memName n met₂ ≡ true
-      grow n h = enqueue-mono inRound s byOf (m .requires) 0 met q met₂ q₂ n k h
+      grow n h = enqueue-mono inRound s rq byOf (m .requires) 0 met q met₂ q₂ n k h
 
       now : memName (e .name) met ≡ true
       now = i .front .queued e (List·Memᴰ·head refl)
@@ -192,8 +191,8 @@ module _ (s : List Descriptor) (rq : Request) (C : Name → Type 0) (closed : Cl
       at : (a : Descriptor) (x : Name) → Mem a (m ∷ []) → Mem x (a .packages) → Mem x (m .packages)
       at a x h u = subst (λ (z : Descriptor). Mem x (z .packages)) (List·Memᴰ·eq-of-singleton h) u
 
-      inC : (r : Requirement) (o : Descriptor) → Mem r (m .requires) → isPermitted rq (r .name) ≡ true → find (r .name) s ≡ some o → C (r .name)
-      inC r o h u v = closed .requirement (e .name) m r o (i .front .small (e .name) m now p f) f h u v
+      inC : (r : Requirement) (o : Descriptor) → Mem r (m .requires) → leads rq r ≡ true → isPermitted rq (r .name) ≡ true → find (r .name) s ≡ some o → C (r .name)
+      inC r o h x u v = closed .requirement (e .name) m r o (i .front .small (e .name) m now p f) f h x u v
 
       before : Front s rq C all met q
       before = front-take s rq C ms met e q m f (i .front)

@@ -19,9 +19,9 @@ use Rattle.resolution.specs.Lists.{Name, Mem, any, keep}
 use Rattle.resolution.specs.Loop.{Step, stop, fail, go, Result, failed, done, after, loop}
 use Rattle.resolution.specs.Owner.{least, lesser, shared, ownerIn}
 use Rattle.resolution.specs.Positions.{moduleAt, isVisible}
-use Rattle.resolution.specs.Resolution.{Enqueued, Item, QueuedBy, Refusal, State, asRequirement, base, baseMet, baseQueue, choose, enqueue, enqueueNext, enqueued, find, found, handled, hasModule, indexOf, isProvider, javaBaseNotFound, observable, missing, moduleNotFound, names, nameOrEmpty, passed, provider, providers, queueFuel, ran, ranOut, required, root, round, roundOn, rounds, runQueue, seeds, splitPackage, started, taken, tested, turn, resolve}
+use Rattle.resolution.specs.Resolution.{Enqueued, Item, QueuedBy, Refusal, State, asRequirement, base, baseMet, baseQueue, choose, enqueue, enqueueNext, enqueued, find, found, handled, hasModule, indexOf, isProvider, javaBaseNotFound, observable, missing, moduleNotFound, names, nameOrEmpty, passed, provider, providers, queueFuel, ran, ranOut, required, root, round, roundOn, rounds, runQueue, seeds, splitPackage, started, taken, tested, turn, resolve, leads}
 use Rattle.resolution.proofs.Accepted.{provider-closed, seeds-base}
-use Rattle.resolution.proofs.Enqueue.{item, met-new, met-old}
+use Rattle.resolution.proofs.Enqueue.{item, met-new, met-old, Queues}
 use Rattle.resolution.proofs.Find.{find-mem, has-find}
 use Rattle.resolution.proofs.Observable.{observable-mem}
 use Rattle.resolution.proofs.Lists.{any-in, any-out, first-in, first-out, keep-out, map-append, map-in, map-out}
@@ -31,14 +31,14 @@ use Rattle.resolution.proofs.Positions.{index-visible, find-at}
 
 -- Below, C is any set of names that is closed (demand 3): a module of C is one that every such set has.
 
--- requirement j of the module at p, which is observable, permitted and in C; it is not static, or a module of the set
+-- requirement j of the module at p, which is observable, permitted and in C; it leads, and is not static or a module of the set
 pub record RequiredAt (s : List Descriptor) (rq : Request) (C : Name → Type 0) (n : Name) (p j : ℕ) : Type 0 where
   pub visible : isVisible s p ≡ true
   pub permitted : isPermitted rq (moduleAt s p .name) ≡ true
   pub reached : C (moduleAt s p .name)
   pub within : j < length (moduleAt s p .requires)
   pub name : getD (moduleAt s p .requires) j (requirementOf []) .name ≡ n
-  pub needed : (hasModule s n ≡ true) ⊎ (getD (moduleAt s p .requires) j (requirementOf []) .static ≡ false)
+  pub needed : Queues s rq (getD (moduleAt s p .requires) j (requirementOf []))
 
 -- the name stands in the record that queued it: none where it is java.base in front; a provider is a module of the set
 abbrev pub Stands : List Descriptor → Request → (Name → Type 0) → Name → QueuedBy → Type 0
@@ -235,39 +235,40 @@ sound-none s rq C = record {
 
 module _ (s : List Descriptor) (rq : Request) (C : Name → Type 0) (b inRound : Bool) (late : inRound ≡ true → b ≡ true) (byOf : ℕ → QueuedBy) (rule : inRound ≡ true → (k : ℕ) → IsRequired (byOf k)) (ms : List Descriptor) where
   enqueue-caused : (rs : List Requirement) (j : ℕ) (met : List Name) (q : List Item)
-      → ((i k : ℕ) → i < length rs → k ≡ j + i → (hasModule s (getD rs i (requirementOf []) .name) ≡ true) ⊎ (getD rs i (requirementOf []) .static ≡ false) → Stands s rq C (getD rs i (requirementOf []) .name) (byOf k))
-      → ((r : Requirement) (m : Descriptor) → Mem r rs → isPermitted rq (r .name) ≡ true → find (r .name) s ≡ some m → C (r .name))
-      → Sound s rq C b ms met q → CausedEnqueued s rq C b ms (enqueue inRound s byOf rs j met q)
+      → ((i k : ℕ) → i < length rs → k ≡ j + i → Queues s rq (getD rs i (requirementOf [])) → Stands s rq C (getD rs i (requirementOf []) .name) (byOf k))
+      → ((r : Requirement) (m : Descriptor) → Mem r rs → leads rq r ≡ true → isPermitted rq (r .name) ≡ true → find (r .name) s ≡ some m → C (r .name))
+      → Sound s rq C b ms met q → CausedEnqueued s rq C b ms (enqueue inRound s rq byOf rs j met q)
   unfolding enqueue
   enqueue-caused [] j met q each inC a = a
   enqueue-caused (r ∷ rs) j met q each inC a =
-      turned (memName (r .name) met) (hasModule s (r .name)) (r .static) inRound refl refl refl refl
+      turned (memName (r .name) met) (leads rq r) (hasModule s (r .name)) (r .static) inRound refl refl refl refl refl
       (λ mt w h. enqueue-caused rs (suc j) mt w (λ i k l e. each (suc i) k (omega arith) (omega arith)) (λ x m k. inC x m (List·Memᴰ·tail k)) h)
     where
       more : List Name → List Item → Enqueued
-      more mt w = enqueue inRound s byOf rs (suc j) mt w
+      more mt w = enqueue inRound s rq byOf rs (suc j) mt w
 
-      here : (hasModule s (r .name) ≡ true) ⊎ (r .static ≡ false) → Stands s rq C (r .name) (byOf j)
+      here : Queues s rq r → Stands s rq C (r .name) (byOf j)
       here = each 0 j (omega arith) (omega arith)
 
       Below : Type 0
       Below = (mt : List Name) (w : List Item) → Sound s rq C b ms mt w → CausedEnqueued s rq C b ms (more mt w)
 
-      added : memName (r .name) met ≡ false → (hasModule s (r .name) ≡ true) ⊎ (r .static ≡ false) → Below
+      added : memName (r .name) met ≡ false → Queues s rq r → Below
           → CausedEnqueued s rq C b ms (more (r .name ∷ met) (q ++ (item (r .name) (byOf j) ∷ [])))
-      added new n below = below (r .name ∷ met) (q ++ (item (r .name) (byOf j) ∷ [])) (sound-add s rq C b ms met q (r .name) (byOf j) new (inr (here n)) (λ m. inC r m (List·Memᴰ·head refl)) a)
+      added new n below = below (r .name ∷ met) (q ++ (item (r .name) (byOf j) ∷ [])) (sound-add s rq C b ms met q (r .name) (byOf j) new (inr (here n)) (λ m. inC r m (List·Memᴰ·head refl) (n .0)) a)
 
       -- in a round java.base is met
       not-base : memName (r .name) met ≡ false → inRound ≡ true → sameBytes (r .name) javaBase ≡ false
       not-base new i = by (sameBytes (r .name) javaBase) (λ y. true≠false (subst (λ (z : Name). memName z met ≡ true) (sym (same-eq (r .name) javaBase y)) (a .base-met (late i))) new) (λ y. y)
 
-      turned : (o c d l : Bool) → memName (r .name) met ≡ o → hasModule s (r .name) ≡ c → r .static ≡ d → inRound ≡ l → Below
-          → CausedEnqueued s rq C b ms (enqueueNext (choose l o c d) (r .name) (byOf j) met q more)
-      turned true c d l new u t i below = below met q a
-      turned false true d l new u t i below = added new (inl u) below
-      turned false false true l new u t i below = below met q a
-      turned false false false true new u t i below = record { stands = here (inr t); other = not-base new i; absent = u; wanted = inr (rule i j) }
-      turned false false false false new u t i below = added new (inr t) below
+      turned : (o x c d l : Bool) → memName (r .name) met ≡ o → leads rq r ≡ x → hasModule s (r .name) ≡ c → r .static ≡ d → inRound ≡ l → Below
+          → CausedEnqueued s rq C b ms (enqueueNext (choose x l o c d) (r .name) (byOf j) met q more)
+      turned true x c d l new y u t i below = below met q a
+      turned false false c d l new y u t i below = below met q a
+      turned false true true d l new y u t i below = added new (y, inl u) below
+      turned false true false true l new y u t i below = below met q a
+      turned false true false false true new y u t i below = record { stands = here (y, inr t); other = not-base new i; absent = u; wanted = inr (rule i j) }
+      turned false true false false false new y u t i below = added new (y, inr t) below
 
 -- ---- a turn of the queue
 
@@ -292,8 +293,7 @@ module _ (s : List Descriptor) (rq : Request) (C : Name → Type 0) (closed : Cl
 
   -- requirement j of a module stands at its position in the set
   requires-stand : (m : Descriptor) → find (m .name) s ≡ some m → isPermitted rq (m .name) ≡ true → C (m .name) → (i k : ℕ) → i < length (m .requires) → k ≡ 0 + i
-      → (hasModule s (getD (m .requires) i (requirementOf []) .name) ≡ true) ⊎ (getD (m .requires) i (requirementOf []) .static ≡ false)
-      → Stands s rq C (getD (m .requires) i (requirementOf []) .name) (required (indexOf (m .name) s) k)
+      → Queues s rq (getD (m .requires) i (requirementOf [])) → Stands s rq C (getD (m .requires) i (requirementOf []) .name) (required (indexOf (m .name) s) k)
   requires-stand m f p c i k l e d =
       let h : hasModule s (m .name) ≡ true = has-find (m .name) s m f in
       let w : some m ≡ some (moduleAt s (indexOf (m .name) s)) = sym f ∙ find-at (m .name) s h in
@@ -307,7 +307,7 @@ module _ (s : List Descriptor) (rq : Request) (C : Name → Type 0) (closed : Cl
         reached = subst (λ (x : Descriptor). C (x .name)) q c;
         within = subst (λ (x : Descriptor). k < length (x .requires)) q (subst (λ (x : ℕ). x < length (m .requires)) z l);
         name = ap (λ (r : Requirement). r .name) (at _ q);
-        needed = subst (λ (r : Requirement). (hasModule s (getD (m .requires) i (requirementOf []) .name) ≡ true) ⊎ (r .static ≡ false)) (sym (at _ q)) d;
+        needed = subst (λ (r : Requirement). Queues s rq r) (sym (at _ q)) d;
       }
 
   -- a package that is shared: its owner is a module resolved before, and so of another name
@@ -342,14 +342,14 @@ module _ (s : List Descriptor) (rq : Request) (C : Name → Type 0) (closed : Cl
           }
 
   tested-caused : (ms : List Descriptor) (met : List Name) (e : Item) (q : List Item) (m : Descriptor) → find (e .name) s ≡ some m → isPermitted rq (e .name) ≡ true
-      → Sound s rq C true ms met (e ∷ q) → (o : Option Name) → least (shared ms m) ≡ o → CausedStep s rq C (tested inRound s ms m met q o)
+      → Sound s rq C true ms met (e ∷ q) → (o : Option Name) → least (shared ms m) ≡ o → CausedStep s rq C (tested inRound s rq ms m met q o)
   unfolding tested
   tested-caused ms met e q m f p a (some x) l = shared-caused ms met e q m x f p a (least-mem (shared ms m) x l)
   tested-caused ms met e q m f p a none l =
-      handled-caused (ms ++ (m ∷ [])) (enqueue inRound s (required (indexOf (m .name) s)) (m .requires) 0 met q)
+      handled-caused (ms ++ (m ∷ [])) (enqueue inRound s rq (required (indexOf (m .name) s)) (m .requires) 0 met q)
       (enqueue-caused s rq C true inRound (λ i. refl) (required (indexOf (m .name) s)) (λ i k. tt) (ms ++ (m ∷ [])) (m .requires) 0 met q
       (requires-stand m here (subst (λ (z : Name). isPermitted rq z ≡ true) (sym is) p) reached)
-      (λ r k h w g. closed .requirement (m .name) m r k reached here h w g)
+      (λ r k h l w g. closed .requirement (m .name) m r k reached here h l w g)
       (sound-take s rq C true ms met e q m f p a))
     where
       is : m .name ≡ e .name
@@ -378,13 +378,13 @@ module _ (s : List Descriptor) (rq : Request) (C : Name → Type 0) (closed : Cl
       }
 
   found-caused : (e : Item) (ms : List Descriptor) (met : List Name) (q : List Item) → isPermitted rq (e .name) ≡ true → Sound s rq C true ms met (e ∷ q)
-      → (o : Option Descriptor) → find (e .name) s ≡ o → CausedStep s rq C (found inRound s e ms met q o)
+      → (o : Option Descriptor) → find (e .name) s ≡ o → CausedStep s rq C (found inRound s rq e ms met q o)
   unfolding found
   found-caused e ms met q p a none f = absent-caused e (a .queued e (List·Memᴰ·head refl)) p f (sameBytes (e .name) javaBase) refl
   found-caused e ms met q p a (some m) f = tested-caused ms met e q m f p a (least (shared ms m)) refl
 
   passed-caused : (e : Item) (ms : List Descriptor) (met : List Name) (q : List Item) → Sound s rq C true ms met (e ∷ q)
-      → (b : Bool) → isPermitted rq (e .name) ≡ b → CausedStep s rq C (passed inRound s e ms met q b)
+      → (b : Bool) → isPermitted rq (e .name) ≡ b → CausedStep s rq C (passed inRound s rq e ms met q b)
   unfolding passed
   passed-caused e ms met q a false p = sound-skip s rq C true ms met e q a
   passed-caused e ms met q a true p = found-caused e ms met q p a (find (e .name) s) refl
@@ -424,8 +424,7 @@ module _ (s : List Descriptor) (rq : Request) (C : Name → Type 0) (closed : Cl
 
   -- a provider is a module of the set
   providers-stand : (ms : List Descriptor) (i k : ℕ) → i < length (providers s rq ms) → k ≡ 0 + i
-      → (hasModule s (getD (providers s rq ms) i (requirementOf []) .name) ≡ true) ⊎ (getD (providers s rq ms) i (requirementOf []) .static ≡ false)
-      → Stands s rq C (getD (providers s rq ms) i (requirementOf []) .name) (provider k)
+      → Queues s rq (getD (providers s rq ms) i (requirementOf [])) → Stands s rq C (getD (providers s rq ms) i (requirementOf []) .name) (provider k)
   unfolding providers asRequirement hasModule
   providers-stand ms i k l e d =
       let x = map-out (λ (m : Descriptor). asRequirement (m .name)) (keep (isProvider ms rq) (observable s)) (get-mem (providers s rq ms) i l) in
@@ -445,9 +444,9 @@ module _ (s : List Descriptor) (rq : Request) (C : Name → Type 0) (closed : Cl
 
   round-caused : (st : State) → SoundState s rq C st → CausedStep s rq C (round s rq st)
   unfolding round
-  round-caused st a = round-on-caused (st .resolved) (enqueue false s provider (providers s rq (st .resolved)) 0 (st .met) [])
+  round-caused st a = round-on-caused (st .resolved) (enqueue false s rq provider (providers s rq (st .resolved)) 0 (st .met) [])
       (enqueue-caused s rq C true false (λ i. refl) provider (λ i k. true≠false i refl) (st .resolved) (providers s rq (st .resolved)) 0 (st .met) [] (providers-stand (st .resolved))
-      (provider-closed s rq C closed (st .resolved) (λ u h. (a .found-is u h .0, a .led u h))) (sound-rest s rq C true (st .resolved) (st .met) (st .queue) a))
+      (λ r k h l. provider-closed s rq C closed (st .resolved) (λ u h. (a .found-is u h .0, a .led u h)) r k h) (sound-rest s rq C true (st .resolved) (st .met) (st .queue) a))
 
   rounds-caused : (r : Result State Refusal) → CausedResult s rq C r → CausedResult s rq C (rounds s rq r)
   unfolding rounds
@@ -455,8 +454,7 @@ module _ (s : List Descriptor) (rq : Request) (C : Name → Type 0) (closed : Cl
   rounds-caused (done st) h = loop-caused s rq C (round s rq) round-caused (suc (length s)) st h
 
   roots-stand : (i k : ℕ) → i < length (map asRequirement (rq .roots)) → k ≡ 0 + i
-      → (hasModule s (getD (map asRequirement (rq .roots)) i (requirementOf []) .name) ≡ true) ⊎ (getD (map asRequirement (rq .roots)) i (requirementOf []) .static ≡ false)
-      → Stands s rq C (getD (map asRequirement (rq .roots)) i (requirementOf []) .name) (root k)
+      → Queues s rq (getD (map asRequirement (rq .roots)) i (requirementOf [])) → Stands s rq C (getD (map asRequirement (rq .roots)) i (requirementOf []) .name) (root k)
   roots-stand i k l e d = named (rq .roots) i k l (omega arith)
     where
       named : (l : List Name) (i k : ℕ) → i < length (map asRequirement l) → k ≡ i → (k < length l) × (getD l k [] ≡ getD (map asRequirement l) i (requirementOf []) .name)
@@ -475,7 +473,7 @@ module _ (s : List Descriptor) (rq : Request) (C : Name → Type 0) (closed : Cl
   unfolding seeds asRequirement
   seeds-caused = enqueue-caused s rq C false false (λ i. i) root (λ i k. true≠false i refl) [] (map asRequirement (rq .roots)) 0 (baseMet (memName javaBase (rq .roots))) (baseQueue (memName javaBase (rq .roots)))
       roots-stand
-      (λ r m h p f. let x = map-out asRequirement (rq .roots) h in
+      (λ r m h l p f. let x = map-out asRequirement (rq .roots) h in
       subst (λ (z : Requirement). isPermitted rq (z .name) ≡ true → C (z .name)) (sym (x .2)) (closed .root (x .0) (x .1)) p)
       (base-caused (memName javaBase (rq .roots)))
 

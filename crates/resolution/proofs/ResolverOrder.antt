@@ -21,6 +21,8 @@ use Rattle.records.specs.declared.finder.Found.{Found}
 use Rattle.records.specs.declared.finder.Found.the-variants.{At, Nothing}
 use Rattle.records.proofs.Logic.{clash, and-both, and-left, and-right, by, not-of-false, true≠false}
 use Rattle.records.proofs.finder.Modules.{found-at}
+use Rattle.records.specs.Descriptor.{requirementOf}
+use Rattle.resolution.specs.Resolution.{leads}
 use Rattle.resolution.specs.declared.resolver.Halt.{Halt}
 use Rattle.resolution.specs.declared.resolver.Halt.the-variants as Halt
 use Rattle.resolution.specs.declared.resolver.Wanted.{Wanted}
@@ -145,9 +147,13 @@ module _ (w : Inputs) where
       turned (At i) f = here i (locate-below x i f) (holds (w .permitted) i)
       turned Nothing f = passed static (wantAbsent (w .inRound) (isMetBefore w x) (isPermitted (requestOf (w .request)) x) _ e) (absent (w .inRound) (isMetBefore w x) (isPermitted (requestOf (w .request)) x) _)
 
+  led : (b : Bool) {v : Wanted} → InSet (w .count) v → InSet (w .count) (pickWanted b v Pass)
+  led true h = h
+  led false h = record { below = λ i k. clash (cc) }
+
   record-in-set : (i : Input) (b : List ℕ) (start : ℕ) → InSet (w .count) (wantRecord w i b start)
   unfolding wantRecord
-  record-in-set Input.Set b start = want-in-set _ _ _
+  record-in-set Input.Set b start = led (leads (requestOf (w .request)) (requirementOf b)) (want-in-set _ _ _)
   record-in-set Input.Request b start = want-in-set _ _ _
   record-in-set Input.Packages b start = record { below = λ i h. clash (cc) }
 

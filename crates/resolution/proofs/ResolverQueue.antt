@@ -29,7 +29,7 @@ use Rattle.resolution.specs.declared.resolver.Wanted.{Wanted}
 use Rattle.resolution.specs.declared.resolver.Wanted.the-variants.{Pass, Add, Stop}
 use Rattle.resolution.specs.Lists.{Mem, Name, any}
 use Rattle.resolution.specs.Positions.{moduleAt, isVisible}
-use Rattle.resolution.specs.Resolution.{Item, QueuedBy, choose, find, hasModule, indexOf, javaBaseNotFound, moduleNotFound, names}
+use Rattle.resolution.specs.Resolution.{Item, QueuedBy, choose, find, hasModule, indexOf, javaBaseNotFound, moduleNotFound, names, leads, pass}
 use Rattle.resolution.specs.Resolve.{bodyStart, errorOf}
 use Rattle.resolution.specs.Resolver.{Inputs, Line, isMetBefore, isOneOf, kindFor, locate, pickLine, pickWanted, queueIn, queued, queuedOn, want, wantAbsent, wantFound, wantRecord, queuedAt, wantUnfound}
 use Rattle.resolution.specs.Row.{holds}
@@ -143,12 +143,18 @@ module _ (s q : List ℕ) (n : ℕ) (t ws : List ℕ) (g : Given s q n t ws) whe
       turned (Halt.Stop e) = refl
       turned (Halt.Refused e) = refl
 
+  -- one that does not lead is passed over, met or not
+  passed-over : (l b c d : Bool) → choose false l b c d ≡ pass
+  unfolding choose
+  passed-over l true c d = refl
+  passed-over l false c d = refl
+
   -- a name of the set, by its position
   pub queue-found : (P : Line → Lined → Type 0) (inRound : Bool) (old : Name → Bool) (x : Name) (static : Bool) (o : QueuedBy) (k : Short.Line → Lined)
       (i : ℕ) → Located x (modules s) i → (ps qs : List ℕ) (h : Option Item) → Within s ps → Within s qs
       → ((rs : List ℕ) → Within s rs → P (lineAt ps rs (haltOf s q h)) (k (shortLine s rs h)))
       → P (queued (pickWanted (isPermitted (requestOf q) x) (Add i) Pass) (lineAt ps qs (haltOf s q h)))
-      (shortNext (requestOf q) (modules s) (choose inRound (isMet inRound old (modules s) (modulesAt s ps) (shortLine s qs h) x) (hasModule (modules s) x) static) x o (shortLine s qs h) k)
+      (shortNext (requestOf q) (modules s) (choose true inRound (isMet inRound old (modules s) (modulesAt s ps) (shortLine s qs h) x) (hasModule (modules s) x) static) x o (shortLine s qs h) k)
   unfolding shortNext choose push pushed queued queuedOn haltOf queuedAt
   queue-found P inRound old x static o k i w ps qs h a b more =
       rw (w .observable, met-at inRound old x ps qs h a b (w .observable), w .index) (turned (isPermitted (requestOf q) x) (isOneOf i (ps ++ qs)) refl refl h more)
@@ -159,7 +165,7 @@ module _ (s q : List ℕ) (n : ℕ) (t ws : List ℕ) (g : Given s q n t ws) whe
       turned : (c d : Bool) → isPermitted (requestOf q) x ≡ c → isOneOf i (ps ++ qs) ≡ d → (h₂ : Option Item)
           → ((rs : List ℕ) → Within s rs → P (lineAt ps rs (haltOf s q h₂)) (k (shortLine s rs h₂)))
           → P (queued (pickWanted c (Add i) Pass) (lineAt ps qs (haltOf s q h₂)))
-          (shortNext (requestOf q) (modules s) (choose inRound d true static) x o (shortLine s qs h₂) k)
+          (shortNext (requestOf q) (modules s) (choose true inRound d true static) x o (shortLine s qs h₂) k)
       turned false true f e h₂ then = rw (queued-pass (lineAt ps qs (haltOf s q h₂))) (then qs b)
       turned false false f e none then = rw f (then qs b)
       turned false false f e (some y) then = then qs b
@@ -184,7 +190,7 @@ module _ (s q : List ℕ) (n : ℕ) (t ws : List ℕ) (g : Given s q n t ws) whe
         → ((rs : List ℕ) (h₂ : Option Item) → Within s rs → NoHalt inRound h₂ → P (lineAt ps rs (haltOf s q h₂)) (k (shortLine s rs h₂)))
         → ((l : Line) → l .halt ≡ Halt.Refused (errorOf s q (moduleNotFound x o)) → P l (fault x o))
         → P (queued (want w x static e) (lineAt ps qs (haltOf s q h)))
-        (shortNext (requestOf q) (modules s) (choose inRound (isMet inRound old (modules s) (modulesAt s ps) (shortLine s qs h) x) (hasModule (modules s) x) static) x o (shortLine s qs h) k)
+        (shortNext (requestOf q) (modules s) (choose true inRound (isMet inRound old (modules s) (modulesAt s ps) (shortLine s qs h) x) (hasModule (modules s) x) static) x o (shortLine s qs h) k)
     unfolding want wantFound wantAbsent shortNext choose push pushed queued queuedOn haltOf isMet errorOf queuedAt wantUnfound
     queue-one P x static o e er k ps qs h a b nh more refused = turned (locate w x) refl
       where
@@ -195,7 +201,7 @@ module _ (s q : List ℕ) (n : ℕ) (t ws : List ℕ) (g : Given s q n t ws) whe
         absent : find x (modules s) ≡ none → (lt st c base m d : Bool) → inRound ≡ lt → isPermitted rq x ≡ c → sameBytes x javaBase ≡ base
             → (lt ≡ true → d ≡ m) → (lt ≡ false → d ≡ false) → (h₂ : Option Item) → NoHalt inRound h₂
             → P (queued (pickWanted st Pass (wantAbsent lt m c base e)) (lineAt ps qs (haltOf s q h₂)))
-            (shortNext rq (modules s) (choose lt d false st) x o (shortLine s qs h₂) k)
+            (shortNext rq (modules s) (choose true lt d false st) x o (shortLine s qs h₂) k)
         absent nf lt true c base m true el ec eb ed ef h₂ nh₂ = rw (queued-pass (lineAt ps qs (haltOf s q h₂))) (more qs h₂ b nh₂)
         absent nf lt true c base m false el ec eb ed ef h₂ nh₂ = rw (queued-pass (lineAt ps qs (haltOf s q h₂))) (more qs h₂ b nh₂)
         absent nf true false c base true true el ec eb ed ef h₂ nh₂ = rw (queued-pass (lineAt ps qs (haltOf s q h₂))) (more qs h₂ b nh₂)
@@ -213,7 +219,7 @@ module _ (s q : List ℕ) (n : ℕ) (t ws : List ℕ) (g : Given s q n t ws) whe
 
         turned : (f : Found) → locate w x ≡ f
             → P (queued (wantFound w x static e f) (lineAt ps qs (haltOf s q h)))
-            (shortNext rq (modules s) (choose inRound (isMet inRound old (modules s) (modulesAt s ps) (shortLine s qs h) x) (hasModule (modules s) x) static) x o (shortLine s qs h) k)
+            (shortNext rq (modules s) (choose true inRound (isMet inRound old (modules s) (modulesAt s ps) (shortLine s qs h) x) (hasModule (modules s) x) static) x o (shortLine s qs h) k)
         turned (At i) f =
             let l = located x (modules s) i (sym (locate-is x) ∙ f) in
             let pm : holds ws i ≡ isPermitted rq x
@@ -224,6 +230,18 @@ module _ (s q : List ℕ) (n : ℕ) (t ws : List ℕ) (g : Given s q n t ws) whe
             rw (absent-at x ps a (l .0), absent-at x qs b (l .0), l .0)
             (absent (l .1) inRound static (isPermitted rq x) (sameBytes x javaBase) (isMetBefore w x) (inRound && old x) refl refl refl
             (λ (r : inRound ≡ true). ap (λ (z : Bool). z && old x) r ∙ sym (past r x)) (λ (r : inRound ≡ false). ap (λ (z : Bool). z && old x) r) h nh)
+
+    -- the name of a requirement, which leads or not
+    queue-led : (lead : Bool) (P : Line → Lined → Type 0) (x : Name) (static : Bool) (o : QueuedBy) (e : ModuleError) → errorOf s q (moduleNotFound x o) ≡ e
+        → (k : Short.Line → Lined) (ps qs : List ℕ) (h : Option Item) → Within s ps → Within s qs → NoHalt inRound h
+        → ((rs : List ℕ) (h₂ : Option Item) → Within s rs → NoHalt inRound h₂ → P (lineAt ps rs (haltOf s q h₂)) (k (shortLine s rs h₂)))
+        → ((l : Line) → l .halt ≡ Halt.Refused (errorOf s q (moduleNotFound x o)) → P l (fault x o))
+        → P (queued (pickWanted lead (want w x static e) Pass) (lineAt ps qs (haltOf s q h)))
+        (shortNext (requestOf q) (modules s) (choose lead inRound (isMet inRound old (modules s) (modulesAt s ps) (shortLine s qs h) x) (hasModule (modules s) x) static) x o (shortLine s qs h) k)
+    unfolding shortNext
+    queue-led true P x static o e er k ps qs h a b nh more refused = queue-one P x static o e er k ps qs h a b nh more refused
+    queue-led false P x static o e er k ps qs h a b nh more refused =
+        rw (queued-pass (lineAt ps qs (haltOf s q h)), passed-over inRound (isMet inRound old (modules s) (modulesAt s ps) (shortLine s qs h) x) (hasModule (modules s) x) static) (more qs h b nh)
 
     -- ---- a row of records
 
@@ -243,7 +261,7 @@ module _ (s q : List ℕ) (n : ℕ) (t ws : List ℕ) (g : Given s q n t ws) whe
 
     -- the records of the input from `at` on, where those of its kind have the numbers from j on
     module _ (i : Input) (reqOf : List ℕ → Requirement) (errorAt : ℕ → ℕ → ModuleError)
-        (reads : (b : List ℕ) (start : ℕ) → wantRecord w i b start ≡ want w (reqOf b .name) (reqOf b .static) (errorAt (length (reqOf b .name)) start))
+        (reads : (b : List ℕ) (start : ℕ) → wantRecord w i b start ≡ pickWanted (leads (requestOf q) (reqOf b)) (want w (reqOf b .name) (reqOf b .static) (errorAt (length (reqOf b .name)) start)) Pass)
         (byOf : ℕ → QueuedBy) where
       -- an absent name that number j + m queued is told at record m of the kind from `at` on
       abbrev Recorded : ℕ → ℕ → List (List ℕ) → Type 0
@@ -284,7 +302,7 @@ module _ (s q : List ℕ) (n : ℕ) (t ws : List ℕ) (g : Given s q n t ws) whe
           turned true e below =
               let v : Requirement = reqOf (bodyOf r) in
               rw (reads (bodyOf r) (at + 4))
-              (queue-one (λ l z. Follows s q inRound ps (queueIn w i (at + length r) rs l) z) (v .name) (v .static) (byOf j) (errorAt (length (v .name)) (at + 4)) (here e (v .name))
+              (queue-led (leads (requestOf q) v) (λ l z. Follows s q inRound ps (queueIn w i (at + length r) rs l) z) (v .name) (v .static) (byOf j) (errorAt (length (v .name)) (at + 4)) (here e (v .name))
               (λ l₂. shortEnqueue inRound old (modules s) (requestOf q) byOf (modulesAt s ps) (kind rs) (suc j) l₂) ps qs h a b nh
               (λ qs₂ h₂ b₂ nh₂. below (suc j) (later e) qs₂ h₂ b₂ nh₂)
               (λ l k. ap (λ (z : Line). z .halt) (row-refused i rs (at + length r) l (errorOf s q (moduleNotFound (v .name) (byOf j))) k) ∙ k))

@@ -22,7 +22,7 @@ use Rattle.resolution.specs.declared.resolver.Halt.the-variants as Halt
 use Rattle.resolution.specs.Lists.{Mem, Name, any}
 use Rattle.resolution.specs.Loop.{Result, done, failed, loop, mapDone}
 use Rattle.resolution.specs.Positions.{moduleAt, isVisible}
-use Rattle.resolution.specs.Resolution.{Refusal, State, asRequirement, base, choose, find, hasModule, indexOf, moduleNotFound, ranOut, resolve, root}
+use Rattle.resolution.specs.Resolution.{Refusal, State, asRequirement, base, choose, find, hasModule, indexOf, moduleNotFound, ranOut, resolve, root, leads}
 use Rattle.resolution.specs.Resolve.{absentOf, errorOf}
 use Rattle.resolution.specs.Resolver.{Inputs, Line, frontAt, inRounds, isMetBefore, kindFor, pickLine, queued, resolveAt, rootsAt, roundsAt, runAt, thenRounds, want, wantRecord, firstAt, startOn}
 use Rattle.resolution.specs.Row.{holds}
@@ -57,13 +57,13 @@ module _ (s q : List ℕ) (n : ℕ) (t ws : List ℕ) (g : Given s q n t ws) whe
   not-round e x = true≠false e refl
 
   -- java.base in front is queued as a requirement that is not met
-  base-next : shortNext (requestOf q) (modules s) (choose false (isMet false never (modules s) (modulesAt s []) (shortLine s [] none) javaBase) (hasModule (modules s) javaBase) false) javaBase base (shortLine s [] none) lined
+  base-next : shortNext (requestOf q) (modules s) (choose true false (isMet false never (modules s) (modulesAt s []) (shortLine s [] none) javaBase) (hasModule (modules s) javaBase) false) javaBase base (shortLine s [] none) lined
       ≡ lined (shortBase (requestOf q) (modules s) false)
   unfolding shortNext choose isMet hasModule any shortBase empty
   base-next = turned (hasModule (modules s) javaBase)
     where
       turned : (b : Bool)
-          → shortNext (requestOf q) (modules s) (choose false false b false) javaBase base (shortLine s [] none) lined
+          → shortNext (requestOf q) (modules s) (choose true false false b false) javaBase base (shortLine s [] none) lined
           ≡ lined (push (shortLine s [] none) true (find javaBase (modules s)) (record { name = javaBase; by = base }))
       turned true = rw (base-permitted (requestOf q))
       turned false = rw (base-permitted (requestOf q))
@@ -89,7 +89,7 @@ module _ (s q : List ℕ) (n : ℕ) (t ws : List ℕ) (g : Given s q n t ws) whe
       let f : Waits s q false [] (frontAt w) (shortBase (requestOf q) (modules s) (memName javaBase (requestOf q .roots))) = front-is in
       rw (f .line-is, f .short-is, map-map nameOf asRequirement (bodiesIn Kind.Root (records q)))
       (queue-row s q n t ws g false [] never not-round Input.Request (λ b. asRequirement (nameOf b)) (λ len start. ModuleNotFound Input.Request (start + 1) len)
-      (λ b start. unfold wantRecord asRequirement in refl) root (records q) 0 0
+      (λ b start. unfold wantRecord asRequirement leads in refl) root (records q) 0 0
       (λ x m. let y : 0 + m ≡ m = omega arith in rw y (unfold errorOf absentOf in refl)) [] (f .queue) (f .absent) nothing (f .within) (f .calm))
 
   -- ---- the whole

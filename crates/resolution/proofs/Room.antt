@@ -16,7 +16,7 @@ use Rattle.records.proofs.Logic.{by, or-left, or-right, true≠false}
 use Rattle.resolution.specs.Lists.{Mem, Name, any}
 use Rattle.resolution.specs.Loop.{go, loop}
 use Rattle.resolution.specs.Owner.{least, shared}
-use Rattle.resolution.specs.Resolution.{Choice, Item, QueuedBy, add, asRequirement, base, choose, find, hasModule, indexOf, names, pass, provider, providers, ranOut, refuse, required, root}
+use Rattle.resolution.specs.Resolution.{Choice, Item, QueuedBy, add, asRequirement, base, choose, find, hasModule, indexOf, names, pass, provider, providers, ranOut, refuse, required, root, leads}
 use Rattle.resolution.specs.Short.{Line, Lined, Short, empty, fault, isMet, lined, never, push, pushed, shortBase, shortEnqueue, shortHandled, shortNext, shortTaken, shortTested, shortTurn}
 use Rattle.resolution.proofs.Accepted.{base-permitted}
 use Rattle.resolution.proofs.Enqueue.{fresh, fresh-lt}
@@ -47,9 +47,9 @@ module _ (inRound : Bool) (old : Name → Bool) (s : List Descriptor) (rq : Requ
       chosen h refuse k below = absurd (let z : _≡_ {A = ℕ} 0 1 = cc in omega arith)
 
       turned : (b : Bool) → isMet inRound old s ms l (r .name) ≡ b
-          → shortNext rq s (choose inRound b (hasModule s (r .name)) (r .static)) (r .name) (byOf j) l more ≡ lined l₂ → Below → P l₂
+          → shortNext rq s (choose (leads rq r) inRound b (hasModule s (r .name)) (r .static)) (r .name) (byOf j) l more ≡ lined l₂ → Below → P l₂
       turned true h k below = below l p k
-      turned false h k below = chosen h (choose inRound false (hasModule s (r .name)) (r .static)) k below
+      turned false h k below = chosen h (choose (leads rq r) inRound false (hasModule s (r .name)) (r .static)) k below
 
 -- ---- room
 

@@ -16,7 +16,7 @@ use Rattle.resolution.specs.Lists.{Name}
 use Rattle.resolution.specs.Loop.{Result, Step, after, done, fail, failed, go, loop, stop}
 use Rattle.resolution.specs.Owner.{least, ownerIn, shared}
 use Rattle.resolution.specs.Positions.{moduleAt}
-use Rattle.resolution.specs.Resolution.{Choice, Enqueued, Item, QueuedBy, Refusal, State, add, asRequirement, baseMet, baseQueue, candidates, choose, enqueue, enqueueNext, enqueued, find, found, handled, hasModule, indexOf, javaBaseNotFound, missing, moduleNotFound, nameOrEmpty, observable, pass, passed, provider, providers, queueFuel, ran, ranOut, refuse, required, resolve, root, round, roundOn, rounds, runQueue, seeds, started, taken, tested, turn}
+use Rattle.resolution.specs.Resolution.{Choice, Enqueued, Item, QueuedBy, Refusal, State, add, asRequirement, baseMet, baseQueue, candidates, choose, enqueue, enqueueNext, enqueued, find, found, handled, hasModule, indexOf, javaBaseNotFound, missing, moduleNotFound, nameOrEmpty, observable, pass, passed, provider, providers, queueFuel, ran, ranOut, refuse, required, resolve, root, round, roundOn, rounds, runQueue, seeds, started, taken, tested, turn, leads}
 use Rattle.resolution.specs.SameResolution.{SameQueuedBy, SameRefusal, SameResult, same-absent, same-base, same-done, same-failed, same-no-base, same-provider, same-required, same-root, same-split}
 use Rattle.resolution.proofs.Enqueue.{fresh, item}
 use Rattle.resolution.proofs.Find.{find-mem, has-find, has-some}
@@ -92,18 +92,18 @@ module _ (s₁ s₂ : List Descriptor) (same : observable s₁ ≡ observable s�
       same-required (indexOf n s₁) (indexOf n s₂) j (index-visible n s₁ h) (index-visible n s₂ k) (cc)
 
   same-enqueue : (inRound : Bool) (of₁ of₂ : ℕ → QueuedBy) → ((j : ℕ) → SameQueuedBy s₁ s₂ (of₁ j) (of₂ j)) → (rs : List Requirement) (j : ℕ) (met : List Name) (q₁ q₂ : List Item)
-      → SameQueue s₁ s₂ q₁ q₂ → SameEnqueued s₁ s₂ (enqueue inRound s₁ of₁ rs j met q₁) (enqueue inRound s₂ of₂ rs j met q₂)
+      → SameQueue s₁ s₂ q₁ q₂ → SameEnqueued s₁ s₂ (enqueue inRound s₁ rq of₁ rs j met q₁) (enqueue inRound s₂ rq of₂ rs j met q₂)
   unfolding enqueue
   same-enqueue inRound of₁ of₂ at [] j met q₁ q₂ q = same-enqueued met q
   same-enqueue inRound of₁ of₂ at (r ∷ rs) j met q₁ q₂ q =
-      subst (λ (b : Bool). SameEnqueued s₁ s₂ (next₁ (choose inRound (memName (r .name) met) (hasModule s₁ (r .name)) (r .static))) (next₂ (choose inRound (memName (r .name) met) b (r .static))))
-      (same-has (r .name)) (chosen (choose inRound (memName (r .name) met) (hasModule s₁ (r .name)) (r .static)) (λ mt a b w. same-enqueue inRound of₁ of₂ at rs (suc j) mt a b w))
+      subst (λ (b : Bool). SameEnqueued s₁ s₂ (next₁ (choose (leads rq r) inRound (memName (r .name) met) (hasModule s₁ (r .name)) (r .static))) (next₂ (choose (leads rq r) inRound (memName (r .name) met) b (r .static))))
+      (same-has (r .name)) (chosen (choose (leads rq r) inRound (memName (r .name) met) (hasModule s₁ (r .name)) (r .static)) (λ mt a b w. same-enqueue inRound of₁ of₂ at rs (suc j) mt a b w))
     where
       more₁ : List Name → List Item → Enqueued
-      more₁ mt w = enqueue inRound s₁ of₁ rs (suc j) mt w
+      more₁ mt w = enqueue inRound s₁ rq of₁ rs (suc j) mt w
 
       more₂ : List Name → List Item → Enqueued
-      more₂ mt w = enqueue inRound s₂ of₂ rs (suc j) mt w
+      more₂ mt w = enqueue inRound s₂ rq of₂ rs (suc j) mt w
 
       next₁ : Choice → Enqueued
       next₁ c = enqueueNext c (r .name) (of₁ j) met q₁ more₁
@@ -128,14 +128,14 @@ module _ (s₁ s₂ : List Descriptor) (same : observable s₁ ≡ observable s�
     same-handled l x y (same-enqueued mt q) = same-go (same-state l mt q)
 
     same-tested : (m : Descriptor) → find (m .name) s₁ ≡ some m → (q₁ q₂ : List Item) → SameQueue s₁ s₂ q₁ q₂ → (o : Option Name)
-        → Turn (tested inRound s₁ ms m met q₁ o) (tested inRound s₂ ms m met q₂ o)
+        → Turn (tested inRound s₁ rq ms m met q₁ o) (tested inRound s₂ rq ms m met q₂ o)
     unfolding tested
     same-tested m f q₁ q₂ q (some p) = same-fail (same-split p (nameOrEmpty (ownerIn ms p)) (m .name))
     same-tested m f q₁ q₂ q none =
         same-handled (ms ++ (m ∷ [])) _ _ (same-enqueue inRound (required (indexOf (m .name) s₁)) (required (indexOf (m .name) s₂)) (same-by (m .name) m f) (m .requires) 0 met q₁ q₂ q)
 
     same-found : (n : Name) (p₁ p₂ : QueuedBy) → SameQueuedBy s₁ s₂ p₁ p₂ → (q₁ q₂ : List Item) → SameQueue s₁ s₂ q₁ q₂ → (o : Option Descriptor) → find n s₁ ≡ o
-        → Turn (found inRound s₁ (item n p₁) ms met q₁ o) (found inRound s₂ (item n p₂) ms met q₂ o)
+        → Turn (found inRound s₁ rq (item n p₁) ms met q₁ o) (found inRound s₂ rq (item n p₂) ms met q₂ o)
     unfolding found
     same-found n p₁ p₂ p q₁ q₂ q none f = same-fail (absent (sameBytes n javaBase))
       where
@@ -145,11 +145,11 @@ module _ (s₁ s₂ : List Descriptor) (same : observable s₁ ≡ observable s�
     same-found n p₁ p₂ p q₁ q₂ q (some m) f = same-tested m (subst (λ (z : Name). find z s₁ ≡ some m) (sym (find-mem n s₁ m f .1)) f) q₁ q₂ q (least (shared ms m))
 
     same-passed : (n : Name) (p₁ p₂ : QueuedBy) → SameQueuedBy s₁ s₂ p₁ p₂ → (q₁ q₂ : List Item) → SameQueue s₁ s₂ q₁ q₂ → (b : Bool)
-        → Turn (passed inRound s₁ (item n p₁) ms met q₁ b) (passed inRound s₂ (item n p₂) ms met q₂ b)
+        → Turn (passed inRound s₁ rq (item n p₁) ms met q₁ b) (passed inRound s₂ rq (item n p₂) ms met q₂ b)
     unfolding passed
     same-passed n p₁ p₂ p q₁ q₂ q false = same-go (same-state ms met q)
     same-passed n p₁ p₂ p q₁ q₂ q true =
-        subst (λ (o : Option Descriptor). Turn (found inRound s₁ (item n p₁) ms met q₁ (find n s₁)) (found inRound s₂ (item n p₂) ms met q₂ o)) (same-find n)
+        subst (λ (o : Option Descriptor). Turn (found inRound s₁ rq (item n p₁) ms met q₁ (find n s₁)) (found inRound s₂ rq (item n p₂) ms met q₂ o)) (same-find n)
         (same-found n p₁ p₂ p q₁ q₂ q (find n s₁) refl)
 
   same-turn : (inRound : Bool) (t₁ t₂ : State) → SameState s₁ s₂ t₁ t₂ → SameStep s₁ s₂ (SameState s₁ s₂) t₁ t₂ (turn inRound s₁ rq t₁) (turn inRound s₂ rq t₂)
@@ -184,10 +184,10 @@ module _ (s₁ s₂ : List Descriptor) (same : observable s₁ ≡ observable s�
       (same-enqueue false provider provider same-provider (providers s₁ rq (t .resolved)) 0 (t .met) [] [] same-empty))
     where
       queued₁ : List Requirement → Enqueued
-      queued₁ rs = enqueue false s₁ provider rs 0 (t .met) []
+      queued₁ rs = enqueue false s₁ rq provider rs 0 (t .met) []
 
       queued₂ : List Requirement → Enqueued
-      queued₂ rs = enqueue false s₂ provider rs 0 (t .met) []
+      queued₂ rs = enqueue false s₂ rq provider rs 0 (t .met) []
 
       turned : (x y : Enqueued) → queued₁ (providers s₁ rq (t .resolved)) ≡ x → queued₂ (providers s₂ rq (t .resolved)) ≡ y → SameEnqueued s₁ s₂ x y
           → SameStep s₁ s₂ _≡_ t t (roundOn s₁ rq (t .resolved) x) (roundOn s₂ rq (t .resolved) y)

@@ -16,10 +16,10 @@ use Rattle.records.proofs.Logic.{and-both, and-left, and-right, by, not-of-fals
 use Rattle.resolution.specs.Closed.{Member}
 use Rattle.resolution.specs.Lists.{Mem, Name, any, keep}
 use Rattle.resolution.specs.Loop.{Result, Step, done, failed, go, mapDone}
-use Rattle.resolution.specs.Resolution.{Enqueued, Item, Refusal, State, add, asRequirement, base, baseMet, baseQueue, choose, enqueue, enqueued, find, hasModule, indexOf, isProvider, missing, observable, provider, providers, queueFuel, ran, ranOut, required, resolve, root, round, roundOn, rounds, runQueue, seeds, started, taken, turn}
+use Rattle.resolution.specs.Resolution.{Enqueued, Item, Refusal, State, add, asRequirement, base, baseMet, baseQueue, choose, enqueue, enqueued, find, hasModule, indexOf, isProvider, missing, observable, provider, providers, queueFuel, ran, ranOut, required, resolve, root, round, roundOn, rounds, runQueue, seeds, started, taken, turn, leads}
 use Rattle.resolution.specs.Short.{Line, Lined, Short, empty, lineOf, metBefore, never, put, shortBase, shortEnqueue, shortOf, shortRan, shortResolve, shortRound, shortRoundFrom, shortRoundOn, shortRounds, shortRun, shortStarted}
 use Rattle.resolution.proofs.Accepted.{Rest, base-permitted, first-front, round-keeps, round-start, run-inv, seeds-inv, trivial}
-use Rattle.resolution.proofs.Enqueue.{enqueue-inv, item, met-cases}
+use Rattle.resolution.proofs.Enqueue.{enqueue-inv, item, met-cases, not-static-queues}
 use Rattle.resolution.proofs.Find.{has-find}
 use Rattle.resolution.proofs.Observable.{observable-found}
 use Rattle.resolution.proofs.Follow.{Good, Past, run-follows, run-past}
@@ -55,12 +55,12 @@ module _ (rq : Request) where
       let r : Requirement = y .0 in
       g m r (x .1) (y .1) (not-true (r .static) (and-left (not (r .static)) (sameBytes (r .name) n) (y .2))) (sym (same→ n (r .name) (and-right (not (r .static)) (sameBytes (r .name) n) (y .2)))))
 
-absent-static : (l b d : Bool) → b ≡ false → choose l false b d ≡ add → d ≡ false
+absent-static : (x l b d : Bool) → b ≡ false → choose x l false b d ≡ add → d ≡ false
 unfolding choose
-absent-static l true d k w = true≠false refl k
-absent-static l false true k w = absurd (let z : _≡_ {A = ℕ} 0 1 = cc in omega arith)
-absent-static true false false k w = refl
-absent-static false false false k w = refl
+absent-static x l true d k w = true≠false refl k
+absent-static x l false false k w = refl
+absent-static false l false true k w = absurd (let z : _≡_ {A = ℕ} 0 1 = cc in omega arith)
+absent-static true l false true k w = absurd (let z : _≡_ {A = ℕ} 0 1 = cc in omega arith)
 
 module _ (s : List Descriptor) (rq : Request) where
   -- why an absent name is met
@@ -71,11 +71,11 @@ module _ (s : List Descriptor) (rq : Request) where
       → Why (t .resolved) (t .met)
   why-turned ms met e q t w (skipped x) = w
   why-turned ms met e q t w (took m met₂ q₂ x f l k) =
-      enqueue-inv false s (required (indexOf (m .name) s)) (λ mt v. Why (ms ++ (m ∷ [])) mt) (m .requires) 0 met q met₂ q₂
+      enqueue-inv false s rq (required (indexOf (m .name) s)) (λ mt v. Why (ms ++ (m ∷ [])) mt) (m .requires) 0 met q met₂ q₂
       (λ r i mt v h new c g n a b. met-cases n (r .name) mt a
       (λ (u : n ≡ r .name). inr (subst (λ (z : Name). metBefore rq (ms ++ (m ∷ [])) z ≡ true) (sym u)
       (old-req rq (ms ++ (m ∷ [])) m r (Memᴰ·append-right ms (List·Memᴰ·head refl)) h
-      (absent-static false (hasModule s (r .name)) (r .static) (subst (λ (z : Name). hasModule s z ≡ false) u b) c))))
+      (absent-static (leads rq r) false (hasModule s (r .name)) (r .static) (subst (λ (z : Name). hasModule s z ≡ false) u b) c))))
       (λ u. g n u b))
       (λ n a b. ⊎-elim (λ u. inl u)
       (λ u. inr (old-out rq (metBefore rq (ms ++ (m ∷ [])) n ≡ true) ms n u (λ y. old-root rq (ms ++ (m ∷ [])) n y)
@@ -100,7 +100,7 @@ module _ (s : List Descriptor) (rq : Request) where
   seeds-why : (met : List Name) (q : List Item) → seeds s rq ≡ enqueued met q → Why [] met
   unfolding seeds asRequirement
   seeds-why met q e =
-      enqueue-inv false s root (λ mt v. Why [] mt) (map asRequirement (rq .roots)) 0 (baseMet b) (baseQueue b) met q
+      enqueue-inv false s rq root (λ mt v. Why [] mt) (map asRequirement (rq .roots)) 0 (baseMet b) (baseQueue b) met q
       (λ r i mt v h new c g n a k. met-cases n (r .name) mt a
       (λ (u : n ≡ r .name). let x = map-out asRequirement (rq .roots) h in inr (subst (λ (z : Name). metBefore rq [] z ≡ true) (sym (u ∙ ap (λ (z : Requirement). z .name) (x .2))) (old-root rq [] (x .0) (x .1))))
       (λ u. g n u k)) (base-why b) e
@@ -113,7 +113,7 @@ module _ (s : List Descriptor) (rq : Request) where
   first-past t r w lt n ns = by (metBefore rq (t .resolved) n)
       (λ h. old-out rq (memName n (t .met) ≡ metBefore rq (t .resolved) n) (t .resolved) n h
       (λ y. r .0 .roots n y ∙ sym h)
-      (λ m x y z st na. subst (λ (v : Name). memName v (t .met) ≡ true) na (r .0 .reqs m x y z (inr st)) ∙ sym h))
+      (λ m x y z st na. subst (λ (v : Name). memName v (t .met) ≡ true) na (r .0 .reqs m x y z (not-static-queues s rq x st)) ∙ sym h))
       (λ h. by (memName n (t .met))
       (λ k. ⊎-elim (λ (u : n ≡ javaBase). true≠false base-observable (subst (λ (z : Name). hasModule s z ≡ false) u ns)) (λ u. true≠false u h) (w n k ns))
       (λ k. k ∙ sym h))
@@ -134,11 +134,11 @@ module _ (s : List Descriptor) (rq : Request) (old : Name → Bool) where
   Fits : Item → Type 0
   Fits a = (isPermitted rq (a .name) ≡ true) × (m : Descriptor) × (find (a .name) s ≡ some m)
 
-  fits : (ms : List Descriptor) (met met₂ : List Name) (q : List Item) → enqueue false s provider (providers s rq ms) 0 met [] ≡ enqueued met₂ q
+  fits : (ms : List Descriptor) (met met₂ : List Name) (q : List Item) → enqueue false s rq provider (providers s rq ms) 0 met [] ≡ enqueued met₂ q
       → (a : Item) → Mem a q → Fits a
   unfolding Fits
   fits ms met met₂ q e =
-      enqueue-inv false s provider (λ mt w. (a : Item) → Mem a w → Fits a) (providers s rq ms) 0 met [] met₂ q
+      enqueue-inv false s rq provider (λ mt w. (a : Item) → Mem a w → Fits a) (providers s rq ms) 0 met [] met₂ q
       (λ r i mt w h new c g a k. ⊎-elim (λ u. g a u) (λ u. subst Fits (sym (List·Memᴰ·eq-of-singleton u)) (one r i h)) (List·Memᴰ·append-cases w k))
       (λ a k. absurd (List·Memᴰ·not-nil k)) e
     where
@@ -150,10 +150,10 @@ module _ (s : List Descriptor) (rq : Request) (old : Name → Bool) where
           let n : r .name ≡ m .name = ap (λ (z : Requirement). z .name) (x .2) in
           (subst (λ (z : Name). isPermitted rq z ≡ true) (sym n) (and-left (isPermitted rq (m .name)) _ (y .1)), m, subst (λ (z : Name). find z s ≡ some m) (sym n) (observable-found s m (y .0))))
 
-  round-past : (ms : List Descriptor) (met met₂ : List Name) (q : List Item) → enqueue false s provider (providers s rq ms) 0 met [] ≡ enqueued met₂ q
+  round-past : (ms : List Descriptor) (met met₂ : List Name) (q : List Item) → enqueue false s rq provider (providers s rq ms) 0 met [] ≡ enqueued met₂ q
       → Past s rq true old met → Past s rq true old met₂
   round-past ms met met₂ q e p =
-      enqueue-inv false s provider (λ mt w. Past s rq true old mt) (providers s rq ms) 0 met [] met₂ q
+      enqueue-inv false s rq provider (λ mt w. Past s rq true old mt) (providers s rq ms) 0 met [] met₂ q
       (λ r i mt w h new c g lt. let y = providers-in s rq ms r h in
       past-add s old (r .name) mt (subst (λ (z : Name). hasModule s z ≡ true) (sym (y .2)) (has-find (y .0 .name) s (y .0) (observable-found s (y .0) (y .1)))) (g lt)) p e
 
@@ -169,13 +169,13 @@ module _ (s : List Descriptor) (rq : Request) (old : Name → Bool) where
   from-line ms (x ∷ xs) h m r e = refl
 
   start : (st : State) → Between st → (met : List Name) (q : List Item)
-      → enqueue false s provider (providers s rq (st .resolved)) 0 (st .met) [] ≡ enqueued met q
+      → enqueue false s rq provider (providers s rq (st .resolved)) 0 (st .met) [] ≡ enqueued met q
       → Invariant s rq Whatever (record { resolved = st .resolved; met = met; queue = q })
   start st g met q e = round-start s rq Whatever (trivial s rq) st (g .0) met q e
 
   round-follows : (st : State) → Between st → Follow (shortOf s rq) (shortOf s rq st) (shortRound old s rq (shortOf s rq st)) (round s rq st)
   unfolding shortRound round Fits lineOf
-  round-follows st g = turned _ (enqueue false s provider (providers s rq (st .resolved)) 0 (st .met) []) refl
+  round-follows st g = turned _ (enqueue false s rq provider (providers s rq (st .resolved)) 0 (st .met) []) refl
       (short-enqueue-view false never s rq provider (st .resolved) (providers s rq (st .resolved)) 0 (st .met) [] ready)
     where
       w : Short
@@ -193,7 +193,7 @@ module _ (s : List Descriptor) (rq : Request) (old : Name → Bool) where
       ended (done u) = unfold mapDone shortRan ran in inr refl
 
       queued : (met : List Name) (a : Item) (q : List Item)
-          → enqueue false s provider (providers s rq (st .resolved)) 0 (st .met) [] ≡ enqueued met (a ∷ q)
+          → enqueue false s rq provider (providers s rq (st .resolved)) 0 (st .met) [] ≡ enqueued met (a ∷ q)
           → Follow (shortOf s rq) w (shortRoundFrom old s rq (st .resolved) (lineOf s rq (a ∷ q) .todo) (lineOf s rq (a ∷ q) .halt)) (ran (runQueue true s rq (record { resolved = st .resolved; met = met; queue = a ∷ q })))
       queued met a q e =
           let f = fits (st .resolved) (st .met) met (a ∷ q) e a (List·Memᴰ·head refl) in
@@ -204,7 +204,7 @@ module _ (s : List Descriptor) (rq : Request) (old : Name → Bool) where
           let run = run-follows s rq true old st₂ good (unfold size in round-size s rq (st .resolved) (st .met) met (a ∷ q) e) in
           subst (λ (z : Step Short Refusal). Follow (shortOf s rq) w z (ran (runQueue true s rq st₂))) (sym (line ∙ ap shortRan run)) (ended (runQueue true s rq st₂))
 
-      turned : (z : Lined) (r : Enqueued) → enqueue false s provider (providers s rq (st .resolved)) 0 (st .met) [] ≡ r → z ≡ view s rq r
+      turned : (z : Lined) (r : Enqueued) → enqueue false s rq provider (providers s rq (st .resolved)) 0 (st .met) [] ≡ r → z ≡ view s rq r
           → Follow (shortOf s rq) w (shortRoundOn old s rq (st .resolved) z) (roundOn s rq (st .resolved) r)
       turned z (missing n o) e h = unfold view shortRoundOn roundOn in rw h
       turned z (enqueued met []) e h = unfold view shortRoundOn roundOn lineOf empty shortRoundFrom in rw h
@@ -219,7 +219,7 @@ module _ (s : List Descriptor) (rq : Request) (old : Name → Bool) where
       ended st₂ p (failed a) e k = fail≠go k
       ended st₂ p (done u) e k = run-past s rq true old st₂ t p (e ∙ ap done (cc))
 
-      turned : (r : Enqueued) → enqueue false s provider (providers s rq (st .resolved)) 0 (st .met) [] ≡ r → roundOn s rq (st .resolved) r ≡ go t
+      turned : (r : Enqueued) → enqueue false s rq provider (providers s rq (st .resolved)) 0 (st .met) [] ≡ r → roundOn s rq (st .resolved) r ≡ go t
           → Past s rq true old (t .met)
       turned (missing n o) e k = fail≠go k
       turned (enqueued met []) e k = stop≠go k

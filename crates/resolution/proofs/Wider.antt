@@ -7,16 +7,16 @@ use mathlib.Core.Bool.{Bool, true, not}
 use mathlib.Core.Option.{Option, none, some}
 use mathlib.Core.List.{List, flatMap, List·Memᴰ·not-nil}
 use Rattle.records.specs.Bytes.{sameBytes}
-use Rattle.records.specs.Descriptor.{Descriptor}
+use Rattle.records.specs.Descriptor.{Descriptor, Requirement}
 use Rattle.records.specs.Name.{allUnnamed, memName}
 use Rattle.records.specs.Request.{Request, hasRead}
-use Rattle.records.proofs.Logic.{true≠false}
+use Rattle.records.proofs.Logic.{true≠false, or-cases, or-left, or-right}
 use Rattle.resolution.specs.Closed.{Accepted, Closed, Kept, Member, Wider}
 use Rattle.resolution.specs.Lists.{Mem, Name}
 use Rattle.resolution.specs.Loop.{done}
 use Rattle.resolution.specs.Owner.{named, owner, ownerIn}
 use Rattle.resolution.specs.Reads.{directReads, impliedReads, reads, readsFrom, requiredNames, transitiveNames, transitiveOf}
-use Rattle.resolution.specs.Resolution.{State, find, hasModule, observable, resolve}
+use Rattle.resolution.specs.Resolution.{State, find, hasModule, observable, resolve, leads}
 use Rattle.resolution.proofs.Accepted.{accepted}
 use Rattle.resolution.proofs.Find.{find-in, find-mem, has-find, has-some}
 use Rattle.resolution.proofs.Observable.{observable-found, found-observable}
@@ -33,6 +33,12 @@ modules-over s₁ s₂ f n m e = subst (λ (z : Name). find z s₂ ≡ some m) (
 found-same : (n k : Name) (s : List Descriptor) (m o : Descriptor) → find n s ≡ some m → find k s ≡ some o → n ≡ k → m ≡ o
 found-same n k s m o e f c = let g : find n s ≡ some o = subst (λ (z : Name). find z s ≡ some o) (sym c) f in cc
 
+-- what leads without ST leads with it
+leads-over : (rq₁ rq₂ : Request) → (rq₁ .hasStatic ≡ true → rq₂ .hasStatic ≡ true) → (r : Requirement) → leads rq₁ r ≡ true → leads rq₂ r ≡ true
+unfolding leads
+leads-over rq₁ rq₂ f r l = or-cases (not (r .static)) (rq₁ .hasStatic) l
+    (λ a. or-left (not (r .static)) (rq₂ .hasStatic) a) (λ a. or-right (not (r .static)) (rq₂ .hasStatic) (f a))
+
 module _ (s₁ : List Descriptor) (rq₁ : Request) (R₁ : List Descriptor) (a₁ : Accepted s₁ rq₁ R₁)
     (s₂ : List Descriptor) (rq₂ : Request) (R₂ : List Descriptor) (a₂ : Accepted s₂ rq₂ R₂) (w : Wider s₁ rq₁ s₂ rq₂) where
   -- the second's members are closed for the first
@@ -42,7 +48,7 @@ module _ (s₁ : List Descriptor) (rq₁ : Request) (R₁ : List Descriptor) (a�
       record {
         base = c .base;
         root = λ n m p. c .root n (w .roots n m) (w .permits n p);
-        requirement = λ n m r k a f u p g. c .requirement n m r k a (w .modules n m f) u (w .permits (r .name) p) (w .modules (r .name) k g);
+        requirement = λ n m r k a f u l p g. c .requirement n m r k a (w .modules n m f) u (leads-over rq₁ rq₂ (w .static) r l) (w .permits (r .name) p) (w .modules (r .name) k g);
         provider = λ n m v q k a f u p g x. c .provider n m v q k a (w .modules n m f) u (w .permits q p) (w .modules q k g) x;
       }
 

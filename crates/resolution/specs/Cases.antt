@@ -53,9 +53,9 @@ moduleOf n rs us pv pk = record {
 unfoldable pub requirement : Name → Bool → Requirement
 requirement n t = record { name = n; transitive = t; static = false }
 
--- roots, and the names in LM
+-- roots, and the names in LM; no ST
 unfoldable pub request : List Name → Option (List Name) → Request
-request r l = record { roots = r; limit = l; addReads = []; addExports = []; addOpens = [] }
+request r l = record { roots = r; limit = l; addReads = []; addExports = []; addOpens = []; hasStatic = false }
 
 -- "a", "b", "c"
 unfoldable pub a : Name

@@ -7,7 +7,7 @@ use Rattle.records.specs.Name.{javaBase}
 use Rattle.records.specs.Descriptor.{Requirement, Descriptor}
 use Rattle.records.specs.Request.{Read, Grant, Request, isPermitted}
 use Rattle.resolution.specs.Lists.{Name, Mem}
-use Rattle.resolution.specs.Resolution.{find}
+use Rattle.resolution.specs.Resolution.{find, leads}
 use Rattle.resolution.specs.Reads as Reads
 use Rattle.resolution.specs.Owner.{owner}
 
@@ -16,12 +16,12 @@ abbrev pub Member : List Descriptor → Name → Type 0
 Member ms n = (m : Descriptor) × Mem m ms × (m .name ≡ n)
 
 -- a set of names "that holds java.base, every permitted root and, with each member, its permitted, observable requirements and
--- all permitted, observable providers of services it uses"
+-- all permitted, observable providers of services it uses". "The closure leaves static requirements out when ST is missing" (U6)
 pub record Closed (s : List Descriptor) (rq : Request) (C : Name → Type 0) : Type 0 where
   pub base : C javaBase
   pub root : (n : Name) → Mem n (rq .roots) → isPermitted rq n ≡ true → C n
   pub requirement : (n : Name) (m : Descriptor) (r : Requirement) (k : Descriptor) → C n → find n s ≡ some m → Mem r (m .requires)
-      → isPermitted rq (r .name) ≡ true → find (r .name) s ≡ some k → C (r .name)
+      → leads rq r ≡ true → isPermitted rq (r .name) ≡ true → find (r .name) s ≡ some k → C (r .name)
   pub provider : (n : Name) (m : Descriptor) (v : Name) (q : Name) (k : Descriptor) → C n → find n s ≡ some m → Mem v (m .uses)
       → isPermitted rq q ≡ true → find q s ≡ some k → Mem v (k .provides) → C q
 
@@ -46,6 +46,8 @@ pub record Wider (s₁ : List Descriptor) (rq₁ : Request) (s₂ : List Descrip
   pub addReads : (a : Read) → Mem a (rq₁ .addReads) → Mem a (rq₂ .addReads)
   pub addExports : (a : Grant) → Mem a (rq₁ .addExports) → Mem a (rq₂ .addExports)
   pub addOpens : (a : Grant) → Mem a (rq₁ .addOpens) → Mem a (rq₂ .addOpens)
+  -- "A grown request may gain ST but not drop it" (U6)
+  pub static : rq₁ .hasStatic ≡ true → rq₂ .hasStatic ≡ true
 
 -- "the second has, told by names, every resolved module, read edge and package owner of the first"; and each resolved module of
 -- the first is in the second the same module

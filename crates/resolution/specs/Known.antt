@@ -44,11 +44,12 @@ pub record Met (set request starts old : List ℕ) (phase : Phase) (names needed
   pub met : phase .known ≡ true → phase .in_round ≡ true
       → (x : Name) → (memName x (map (nameIn request) names) || memName x (map (nameIn set) needed)) ≡ isMetBefore (inputsOf set request starts old phase) x
 
--- and the index of the names of the set
+-- and the index of the names of the set, and whether the request has an ST
 pub record Tables (set request starts old : List ℕ) (phase : Phase) (index names needed : List ℕ) : Type 0 where
   pub lookup : Lookup set starts (phase .count) index
   pub limits : Limits request phase names
   pub met : Met set request starts old phase names needed
+  pub statics : phase .statics ≡ requestOf request .hasStatic
 
 -- what the rounds read beside the queue, before there are tables of names
 pub record Later (set request starts old : List ℕ) (phase : Phase) (index : List ℕ) : Type 0 where
@@ -58,3 +59,4 @@ pub record Later (set request starts old : List ℕ) (phase : Phase) (index : Li
   pub later : phase .in_round ≡ true
   pub unknown : phase .known ≡ false
   pub free : phase .limited ≡ false → (x : Name) → isPermitted (requestOf request) x ≡ true
+  pub statics : phase .statics ≡ requestOf request .hasStatic

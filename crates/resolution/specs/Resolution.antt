@@ -3,7 +3,7 @@
 -- of the queue, e the name taken from it; inRound says that a round is being made, and not the queue of the roots. A test stands
 -- as a value that the next function matches.
 use Prim.Native.Nat.{ℕ, suc}
-use mathlib.Core.Bool.{Bool, true, false, _&&_, cond}
+use mathlib.Core.Bool.{Bool, true, false, not, _&&_, _||_, cond}
 use mathlib.Core.Option.{Option, none, some}
 use mathlib.Core.List.{List, [], _∷_, _++_, map, flatMap}
 use lib.ListN.{length}
@@ -77,19 +77,26 @@ pub record State : Type 0 where
 
 -- ---- queueing the names of a row of requirements
 
+-- the requirement leads to its module: it is not static, or the request has ST. "By default such a requirement now brings nothing
+-- in" (U6), observable or not
+unfoldable pub leads : Request → Requirement → Bool
+leads rq r = not (r .static) || rq .hasStatic
+
 -- a requirement is passed over, queued, or refused
 pub data Choice : Type 0 where
   pass add refuse : Choice
 
--- "each requirement not met before is queued; a static one only if observable". In a round "a non-static requirement that is
--- absent and not met before refuses as its requirer is handled, permitted or not".
--- In a round? Met before? Observable? Static?
-unfoldable pub choose : Bool → Bool → Bool → Bool → Choice
-choose inRound true observable static = pass
-choose inRound false true static = add
-choose inRound false false true = pass
-choose true false false false = refuse
-choose false false false false = add
+-- one that does not lead is passed over. Of the others "each requirement not met before is queued; a static one only if
+-- observable". In a round "a non-static requirement that is absent and not met before refuses as its requirer is handled, permitted
+-- or not".
+-- Leads? In a round? Met before? Observable? Static?
+unfoldable pub choose : Bool → Bool → Bool → Bool → Bool → Choice
+choose leads inRound true observable static = pass
+choose false inRound false observable static = pass
+choose true inRound false true static = add
+choose true inRound false false true = pass
+choose true true false false false = refuse
+choose true false false false false = add
 
 -- the name at fault and its record; or the names met and the queue
 pub data Enqueued : Type 0 where
@@ -103,12 +110,12 @@ enqueueNext add n p met q k = k (n ∷ met) (q ++ (record { name = n; by = p } �
 enqueueNext refuse n p met q k = missing n p
 
 -- the requirements in order, from number j on
-unfoldable pub enqueue : Bool → List Descriptor → (ℕ → QueuedBy) → List Requirement → ℕ → List Name → List Item → Enqueued
-unfolding enqueueNext choose hasModule memName
-enqueue inRound s byOf [] j met q = enqueued met q
-enqueue inRound s byOf (r ∷ rs) j met q =
-    enqueueNext (choose inRound (memName (r .name) met) (hasModule s (r .name)) (r .static)) (r .name) (byOf j) met q
-    (λ met₂ q₂. enqueue inRound s byOf rs (suc j) met₂ q₂)
+unfoldable pub enqueue : Bool → List Descriptor → Request → (ℕ → QueuedBy) → List Requirement → ℕ → List Name → List Item → Enqueued
+unfolding enqueueNext choose leads hasModule memName
+enqueue inRound s rq byOf [] j met q = enqueued met q
+enqueue inRound s rq byOf (r ∷ rs) j met q =
+    enqueueNext (choose (leads rq r) inRound (memName (r .name) met) (hasModule s (r .name)) (r .static)) (r .name) (byOf j) met q
+    (λ met₂ q₂. enqueue inRound s rq byOf rs (suc j) met₂ q₂)
 
 -- ---- one turn of the queue
 
@@ -124,28 +131,29 @@ nameOrEmpty (some m) = m .name
 
 -- "Then packages, in byte order, are tested for another owner. Then each requirement not met before is queued": m is the module
 -- of the name taken; the test gave the first package that has another owner, or none
-unfoldable pub tested : Bool → List Descriptor → List Descriptor → Descriptor → List Name → List Item → Option Name → Step State Refusal
+unfoldable pub tested : Bool → List Descriptor → Request → List Descriptor → Descriptor → List Name → List Item → Option Name → Step State Refusal
 unfolding handled enqueue nameOrEmpty ownerIn indexOf
-tested inRound s ms m met q (some p) = fail (splitPackage p (nameOrEmpty (ownerIn ms p)) (m .name))
-tested inRound s ms m met q none = handled (ms ++ (m ∷ [])) (enqueue inRound s (required (indexOf (m .name) s)) (m .requires) 0 met q)
+tested inRound s rq ms m met q (some p) = fail (splitPackage p (nameOrEmpty (ownerIn ms p)) (m .name))
+tested inRound s rq ms m met q none =
+    handled (ms ++ (m ∷ [])) (enqueue inRound s rq (required (indexOf (m .name) s)) (m .requires) 0 met q)
 
 -- "one not observable refuses": an absent java.base is 6, any other name 5
-unfoldable pub found : Bool → List Descriptor → Item → List Descriptor → List Name → List Item → Option Descriptor → Step State Refusal
+unfoldable pub found : Bool → List Descriptor → Request → Item → List Descriptor → List Name → List Item → Option Descriptor → Step State Refusal
 unfolding tested least shared
-found inRound s e ms met q none = fail (cond (sameBytes (e .name) javaBase) javaBaseNotFound (moduleNotFound (e .name) (e .by)))
-found inRound s e ms met q (some m) = tested inRound s ms m met q (least (shared ms m))
+found inRound s rq e ms met q none = fail (cond (sameBytes (e .name) javaBase) javaBaseNotFound (moduleNotFound (e .name) (e .by)))
+found inRound s rq e ms met q (some m) = tested inRound s rq ms m met q (least (shared ms m))
 
 -- "A name taken from the queue that is not permitted is skipped (java.base always passes)"
-unfoldable pub passed : Bool → List Descriptor → Item → List Descriptor → List Name → List Item → Bool → Step State Refusal
+unfoldable pub passed : Bool → List Descriptor → Request → Item → List Descriptor → List Name → List Item → Bool → Step State Refusal
 unfolding found find
-passed inRound s e ms met q false = go (record { resolved = ms; met = met; queue = q })
-passed inRound s e ms met q true = found inRound s e ms met q (find (e .name) s)
+passed inRound s rq e ms met q false = go (record { resolved = ms; met = met; queue = q })
+passed inRound s rq e ms met q true = found inRound s rq e ms met q (find (e .name) s)
 
 -- the first name of the queue
 unfoldable pub taken : Bool → List Descriptor → Request → List Descriptor → List Name → List Item → Step State Refusal
 unfolding passed isPermitted
 taken inRound s rq ms met [] = stop
-taken inRound s rq ms met (e ∷ q) = passed inRound s e ms met q (isPermitted rq (e .name))
+taken inRound s rq ms met (e ∷ q) = passed inRound s rq e ms met q (isPermitted rq (e .name))
 
 unfoldable pub turn : Bool → List Descriptor → Request → State → Step State Refusal
 unfolding taken
@@ -195,7 +203,7 @@ roundOn s rq ms (enqueued met (e ∷ q)) = ran (runQueue true s rq (record { res
 
 unfoldable pub round : List Descriptor → Request → State → Step State Refusal
 unfolding roundOn enqueue providers
-round s rq st = roundOn s rq (st .resolved) (enqueue false s provider (providers s rq (st .resolved)) 0 (st .met) [])
+round s rq st = roundOn s rq (st .resolved) (enqueue false s rq provider (providers s rq (st .resolved)) 0 (st .met) [])
 
 -- a set of n modules takes no more than n rounds that find new ones
 unfoldable pub rounds : List Descriptor → Request → Result State Refusal → Result State Refusal
@@ -217,7 +225,7 @@ baseQueue false = record { name = javaBase; by = base } ∷ []
 -- "roots in order, repeats dropped"
 unfoldable pub seeds : List Descriptor → Request → Enqueued
 unfolding enqueue asRequirement baseMet baseQueue memName
-seeds s rq = enqueue false s root (map asRequirement (rq .roots)) 0 (baseMet (memName javaBase (rq .roots))) (baseQueue (memName javaBase (rq .roots)))
+seeds s rq = enqueue false s rq root (map asRequirement (rq .roots)) 0 (baseMet (memName javaBase (rq .roots))) (baseQueue (memName javaBase (rq .roots)))
 
 unfoldable pub started : List Descriptor → Request → Enqueued → Result State Refusal
 unfolding rounds runQueue

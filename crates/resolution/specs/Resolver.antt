@@ -24,6 +24,7 @@ use Rattle.records.specs.declared.record.Kind.{Kind}
 use Rattle.records.specs.declared.record.Kind.the-variants as Kind
 use Rattle.resolution.specs.Lists.{Name, any, keep, first}
 use Rattle.resolution.specs.Owner.{least}
+use Rattle.resolution.specs.Resolution.{leads}
 use Rattle.resolution.specs.Row.{holds, one, countBelow}
 use Rattle.resolution.specs.Resolve.{bodyStart}
 use Rattle.resolution.specs.declared.resolver.Halt.{Halt}
@@ -112,10 +113,13 @@ wantFound w n static e Nothing = pickWanted static Pass (wantUnfound w n e)
 unfoldable pub want : Inputs → Name → Bool → ModuleError → Wanted
 want w n static e = wantFound w n static e (locate w n)
 
--- the record with this body at `start`, of the set an RQ, of the request an RT; the name is a part of it
+-- the record with this body at `start`, of the set an RQ, of the request an RT; the name is a part of it. An RQ that does not lead is
+-- passed over
 unfoldable pub wantRecord : Inputs → Input → List ℕ → ℕ → Wanted
 wantRecord w Input.Set b start =
-    want w (requirementOf b .name) (requirementOf b .static) (ModuleNotFound Input.Set (start + 3) (length (requirementOf b .name)))
+    pickWanted (leads (requestOf (w .request)) (requirementOf b))
+    (want w (requirementOf b .name) (requirementOf b .static) (ModuleNotFound Input.Set (start + 3) (length (requirementOf b .name))))
+    Pass
 wantRecord w Input.Request b start = want w (nameOf b) false (ModuleNotFound Input.Request (start + 1) (length (nameOf b)))
 wantRecord w Input.Packages b start = Pass
 

@@ -14,7 +14,7 @@ use Rattle.records.specs.Request.{Request, isPermitted}
 use Rattle.resolution.specs.Lists.{Name, any}
 use Rattle.resolution.specs.Loop.{Step, stop, fail, go, Result, failed, done, loop}
 use Rattle.resolution.specs.Owner.{ownerIn, shared, least}
-use Rattle.resolution.specs.Resolution.{find, hasModule, indexOf, QueuedBy, base, root, required, provider, Refusal, moduleNotFound, javaBaseNotFound, splitPackage, ranOut, Item, State, Choice, pass, add, refuse, choose, nameOrEmpty, asRequirement, providers, queueFuel}
+use Rattle.resolution.specs.Resolution.{find, hasModule, indexOf, QueuedBy, base, root, required, provider, Refusal, moduleNotFound, javaBaseNotFound, splitPackage, ranOut, Item, State, leads, Choice, pass, add, refuse, choose, nameOrEmpty, asRequirement, providers, queueFuel}
 
 -- those that wait, and what ends the queue
 pub record Line : Type 0 where
@@ -71,10 +71,10 @@ shortNext rq s refuse n p l k = fault n p
 
 -- the requirements in order, from number j on
 unfoldable pub shortEnqueue : Bool → (Name → Bool) → List Descriptor → Request → (ℕ → QueuedBy) → List Descriptor → List Requirement → ℕ → Line → Lined
-unfolding shortNext isMet choose
+unfolding shortNext isMet choose leads
 shortEnqueue inRound old s rq byOf ms [] j l = lined l
 shortEnqueue inRound old s rq byOf ms (r ∷ rs) j l =
-    shortNext rq s (choose inRound (isMet inRound old s ms l (r .name)) (hasModule s (r .name)) (r .static)) (r .name) (byOf j) l
+    shortNext rq s (choose (leads rq r) inRound (isMet inRound old s ms l (r .name)) (hasModule s (r .name)) (r .static)) (r .name) (byOf j) l
     (λ l₂. shortEnqueue inRound old s rq byOf ms rs (suc j) l₂)
 
 unfoldable pub shortHandled : List Descriptor → Lined → Step Short Refusal

@@ -48,13 +48,14 @@ pub struct Queue {
 }
 
 // How many modules the set has, which of them are permitted and not hidden, whether a round is being made, and how many modules
-// were resolved before the rounds. `limited`: whether the request has an LM; `known`: whether tables of names tell which absent
-// names are permitted, and in a round which were met before the rounds.
+// were resolved before the rounds. `statics`: whether the request has an ST; `limited`: whether it has an LM; `known`: whether
+// tables of names tell which absent names are permitted, and in a round which were met before the rounds.
 pub struct Phase {
     pub count: usize,
     pub permitted: [u64; 4],
     pub in_round: bool,
     pub before: usize,
+    pub statics: bool,
     pub limited: bool,
     pub known: bool,
 }

@@ -21,6 +21,7 @@ use records::descriptor::has_named;
 use records::error::Input;
 use records::error::ModuleError;
 use records::record::Kind;
+use records::request::has_static;
 
 // java.base in front unless it is a root.
 fn front(
@@ -167,6 +168,7 @@ fn resolve_from(
         permitted,
         in_round: true,
         before: first.tail,
+        statics: phase.statics,
         limited: phase.limited,
         known: false,
     };
@@ -206,6 +208,7 @@ fn resolve_listed(
         permitted: words,
         in_round: false,
         before: 0,
+        statics: has_static(request),
         limited: true,
         known: listed.known,
     };
@@ -253,6 +256,7 @@ pub fn resolve_order(
         permitted: words,
         in_round: false,
         before: 0,
+        statics: has_static(request),
         limited: false,
         known: false,
     };

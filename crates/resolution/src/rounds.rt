@@ -176,6 +176,7 @@ fn told_rounds(
         permitted,
         in_round: phase.in_round,
         before: phase.before,
+        statics: phase.statics,
         limited: true,
         known: listed.known,
     };

@@ -2,7 +2,9 @@
 ghost use mathlib.Core.Path.{_≡_};
 ghost use mathlib.Core.Bool.{true, false};
 ghost use Prim.Native.Nat.{_≤_};
-ghost use Rattle.records.specs.Request.{requestOf, isPermitted};
+ghost use Rattle.records.specs.Descriptor.{requirementOf};
+ghost use Rattle.records.specs.Request.{Request, requestOf, isPermitted};
+ghost use Rattle.resolution.specs.Resolution.{leads as leadsTo};
 ghost use Rattle.resolution.specs.Resolver.{inputsOf, isMetBefore, want as wantOf, wantRecord, wantUnfound, kindFor, Within};
 ghost use Rattle.resolution.specs.Known.{Limits, Met, Tables};
 use crate::modules::is_met_before;
@@ -132,7 +134,18 @@ pub fn want(
     }
 }
 
-// What becomes of the name in the record with this body at start: of the set an RQ, of the request an RT.
+// Whether the RQ with this body leads to its module: it is not static, or the request has an ST, as `statics` says.
+fn leads(statics: bool, body: &[u8]) -> bool
+    ensures { λ r. ⌜ ((rq : Request) → statics ≡ rq .hasStatic → r ≡ leadsTo rq (requirementOf (now (body .entry)))) ⌝ }
+{
+    if is_static(body) {
+        return statics;
+    }
+    true
+}
+
+// What becomes of the name in the record with this body at start: of the set an RQ, of the request an RT. One that does not lead
+// is passed over.
 pub fn want_record(
     set: &[u8],
     request: &[u8],
@@ -153,21 +166,25 @@ pub fn want_record(
 {
     match input {
         Input::Set => {
-            let name = required(body);
-            let error = ModuleError::ModuleNotFound(Input::Set, start + 3, name.len());
-            want(
-                set,
-                request,
-                starts,
-                old,
-                phase,
-                index,
-                names,
-                needed,
-                name,
-                is_static(body),
-                error,
-            )
+            if leads(phase.statics, body) {
+                let name = required(body);
+                let error = ModuleError::ModuleNotFound(Input::Set, start + 3, name.len());
+                let wanted = want(
+                    set,
+                    request,
+                    starts,
+                    old,
+                    phase,
+                    index,
+                    names,
+                    needed,
+                    name,
+                    is_static(body),
+                    error,
+                );
+                return wanted;
+            }
+            Wanted::Pass
         }
         Input::Request => {
             let name = name_of(body);

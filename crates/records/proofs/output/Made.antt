@@ -13,7 +13,7 @@ use Rattle.records.specs.Output.{twoBytes, recordBytes, nameBytes, modul
 use Rattle.records.specs.Order.{allShort}
 use Rattle.records.specs.Name.{javaBase}
 use Rattle.records.specs.declared.record.Kind.{Kind}
-use Rattle.records.specs.declared.record.Kind.the-variants.{Module, Requires, Exports, Opens, Uses, Provides, Package, MainClass, Place, Root, LimitModules, AddReads, AddExports, AddOpens, Other}
+use Rattle.records.specs.declared.record.Kind.the-variants.{Module, Requires, Exports, Opens, Uses, Provides, Package, MainClass, Place, Root, LimitModules, AddReads, AddExports, AddOpens, Static, Other}
 use Rattle.records.proofs.record.Laws.{records-cons, records-end}
 use Rattle.records.proofs.output.Groups.{short-first, short-rest}
 
@@ -40,6 +40,7 @@ mark-fits LimitModules = omega arith
 mark-fits AddReads = omega arith
 mark-fits AddExports = omega arith
 mark-fits AddOpens = omega arith
+mark-fits Static = omega arith
 mark-fits Other = omega arith
 
 module _ (k : Kind) (b : List ℕ) where

@@ -56,9 +56,9 @@ pub of-kind : (r : List ℕ) (k j : Kind) → (k ≡ Other → ⊥) → setKind 
 unfolding Told isOf
 of-kind r k j n e = ap (λ (m : ℕ). eqb m (markFor j)) (subst (λ (l : Kind). Told (markOf r) l) e (set-told (markOf r)) n)
 
-pub request-other : (m : ℕ) → (m ≡ 0x5254 → ⊥) → (m ≡ 0x4C4D → ⊥) → (m ≡ 0x4152 → ⊥) → (m ≡ 0x4145 → ⊥) → (m ≡ 0x414F → ⊥) → Other ≡ requestKind m
+pub request-other : (m : ℕ) → (m ≡ 0x5254 → ⊥) → (m ≡ 0x4C4D → ⊥) → (m ≡ 0x4152 → ⊥) → (m ≡ 0x4145 → ⊥) → (m ≡ 0x414F → ⊥) → (m ≡ 0x5354 → ⊥) → Other ≡ requestKind m
 unfolding requestKind
-request-other m a b c d e = rw (ne-eqb m 0x5254 a, ne-eqb m 0x4C4D b, ne-eqb m 0x4152 c, ne-eqb m 0x4145 d, ne-eqb m 0x414F e)
+request-other m a b c d e f = rw (ne-eqb m 0x5254 a, ne-eqb m 0x4C4D b, ne-eqb m 0x4152 c, ne-eqb m 0x4145 d, ne-eqb m 0x414F e, ne-eqb m 0x5354 f)
 
 pub in-told : (i i′ : Input) (m : ℕ) (k : Kind) → i ≡ i′ → k ≡ kindIn i′ m → k ≡ kindIn i m
 in-told i i′ m k e ek = cc

@@ -2,7 +2,7 @@
 use Prim.Native.Nat.{ℕ, _+_, _≤_, _<_}
 use mathlib.Core.Path.{_≡_, refl, sym, _∙_, ap}
 use mathlib.Core.List.{List, [], _∷_, map}
-use mathlib.Core.Bool.{Bool, true, false, cond, _&&_, _||_, not, and-false}
+use mathlib.Core.Bool.{Bool, true, false, cond, _&&_, _||_, not, and-false, or-false}
 use mathlib.Core.Option.{some}
 use native.Mathlib.Omega.{arith}
 use lib.ListN.{length, take, drop}
@@ -13,7 +13,7 @@ use denote.Enum.Declared.{tagOf}
 use Rattle.records.specs.Bytes.{sameBytes}
 use Rattle.records.specs.Name.{javaBase, nameOf, afterName, listOf, memName}
 use Rattle.records.specs.Record.{markOf, bodyOf, records, stepAt, markFor, kindIn, isBody, isOf, bodiesIn, bodies, nextOf, begins, firstOf}
-use Rattle.records.specs.Request.{isLimit, pickRow, rowOf, rowOn, checkRecordsFrom, checkRecords, thenRequest, checkInputs, readOf, grantOf, limitOf, requestOf, withinLimit, isPermitted, hasRead, hasGrant}
+use Rattle.records.specs.Request.{sameKind, pickRow, noneOnce, rowOf, rowOn, checkRecordsFrom, checkRecords, thenRequest, checkInputs, readOf, grantOf, limitOf, hasAny, requestOf, withinLimit, isPermitted, hasRead, hasGrant}
 use Rattle.records.specs.declared.error.Input.{Input}
 use Rattle.records.specs.declared.error.Input.the-variants.{Request}
 use Rattle.records.specs.declared.error.ModuleError.{ModuleError}
@@ -28,7 +28,8 @@ use Rattle.records.specs.declared.record.Step.the-variants.{Record, Bad,
 use Rattle.records.specs.declared.record.Next.{Next}
 use Rattle.records.specs.declared.record.Next.the-variants.{Body, Nothing}
 use Rattle.records.specs.declared.record.Kind.{Kind}
-use Rattle.records.specs.declared.record.Kind.the-variants.{Module, Requires, Exports, Opens, Uses, Provides, Package, MainClass, Place, Root, LimitModules, AddReads, AddExports, AddOpens, Other}
+use Rattle.records.specs.declared.record.Kind.the-variants.{Module, Requires, Exports, Opens, Uses, Provides, Package, MainClass, Place, Root, LimitModules, AddReads, AddExports, AddOpens, Static, Other}
+use Rattle.records.specs.declared.request.Once.{Once}
 use Rattle.records.specs.declared.request.Row.{Row}
 use Rattle.records.specs.declared.request.Row.the-variants as Row
 use Rattle.records.specs.declared.request.RecordsAnswer.{RecordsAnswer}
@@ -41,70 +42,93 @@ use Rattle.records.proofs.record.Search.{firstBody, isFound, found-yes,
 
 -- ---- one record
 
--- all kinds but LM
+-- all kinds but LM and ST
 abbrev pub others : List ℕ
-others = 0 ∷ 1 ∷ 2 ∷ 3 ∷ 4 ∷ 5 ∷ 6 ∷ 7 ∷ 8 ∷ 9 ∷ 11 ∷ 12 ∷ 13 ∷ 14 ∷ []
+others = 0 ∷ 1 ∷ 2 ∷ 3 ∷ 4 ∷ 5 ∷ 6 ∷ 7 ∷ 8 ∷ 9 ∷ 11 ∷ 12 ∷ 13 ∷ 15 ∷ []
 
-limit-no : (k : Kind) → OneOf others (tagOf the-type k) → isLimit k ≡ false
-unfolding isLimit
-limit-no Module h = refl
-limit-no Requires h = refl
-limit-no Exports h = refl
-limit-no Opens h = refl
-limit-no Uses h = refl
-limit-no Provides h = refl
-limit-no Package h = refl
-limit-no MainClass h = refl
-limit-no Place h = refl
-limit-no Root h = refl
-limit-no LimitModules h = absurd (miss others 10 tt h)
-limit-no AddReads h = refl
-limit-no AddExports h = refl
-limit-no AddOpens h = refl
-limit-no Other h = refl
+-- which of these kinds a record is of
+record Which (k : Kind) (limit static : Bool) : Type 0 where
+  is-limit : sameKind k LimitModules ≡ limit
+  is-static : sameKind k Static ≡ static
 
-module _ (limited : Bool) (i : Input) (mark : ℕ) (k : Kind) (ek : k ≡ kindIn i mark) (b : List ℕ) (q : Bool) (eq : q ≡ isBody k b) where
-  pub row-bad : q ≡ false → Row.Bad ≡ rowOf limited (kindIn i mark) b
+neither : (k : Kind) → OneOf others (tagOf the-type k) → Which k false false
+unfolding sameKind markFor
+neither Module h = record { is-limit = refl; is-static = refl }
+neither Requires h = record { is-limit = refl; is-static = refl }
+neither Exports h = record { is-limit = refl; is-static = refl }
+neither Opens h = record { is-limit = refl; is-static = refl }
+neither Uses h = record { is-limit = refl; is-static = refl }
+neither Provides h = record { is-limit = refl; is-static = refl }
+neither Package h = record { is-limit = refl; is-static = refl }
+neither MainClass h = record { is-limit = refl; is-static = refl }
+neither Place h = record { is-limit = refl; is-static = refl }
+neither Root h = record { is-limit = refl; is-static = refl }
+neither LimitModules h = absurd (miss others 10 tt h)
+neither AddReads h = record { is-limit = refl; is-static = refl }
+neither AddExports h = record { is-limit = refl; is-static = refl }
+neither AddOpens h = record { is-limit = refl; is-static = refl }
+neither Static h = absurd (miss others 14 tt h)
+neither Other h = record { is-limit = refl; is-static = refl }
+
+-- LM, or ST
+limits : (k : Kind) → k ≡ LimitModules → Which k true false
+unfolding sameKind markFor
+limits k e = record { is-limit = rw e; is-static = rw e }
+
+statics : (k : Kind) → k ≡ Static → Which k false true
+unfolding sameKind markFor
+statics k e = record { is-limit = rw e; is-static = rw e }
+
+module _ (o : Once) (i : Input) (mark : ℕ) (k : Kind) (ek : k ≡ kindIn i mark) (b : List ℕ) (q : Bool) (eq : q ≡ isBody k b) where
+  pub row-bad : q ≡ false → Row.Bad ≡ rowOf o (kindIn i mark) b
   unfolding rowOf
   row-bad e = sym (rw (← ek, ← eq, e))
 
   module _ (e : q ≡ true) where
-    pub row-pass : OneOf others (tagOf the-type k) → Row.Pass ≡ rowOf limited (kindIn i mark) b
+    row-is : (l t : Bool) → Which k l t
+        → rowOf o (kindIn i mark) b ≡ pickRow (not ((o .limited && l) || (o .statics && t))) (Row.Pass (record { limited = o .limited || l; statics = o .statics || t })) Row.Bad
     unfolding rowOf
-    row-pass o = sym (rw (← ek, ← eq, e, limit-no k o, and-false limited))
+    row-is l t w = rw (← ek, ← eq, e, w .is-limit, w .is-static)
 
-    pub row-twice : k ≡ LimitModules → limited ≡ true → Row.Bad ≡ rowOf limited (kindIn i mark) b
-    unfolding rowOf isLimit
-    row-twice m l = let z : isLimit k ≡ true = rw m in sym (rw (← ek, ← eq, e, z, l))
+    pub row-other : OneOf others (tagOf the-type k) → Row.Pass o ≡ rowOf o (kindIn i mark) b
+    row-other h = sym (row-is false false (neither k h) ∙ rw (and-false (o .limited), and-false (o .statics), or-false (o .limited), or-false (o .statics)))
 
-    pub row-limit : k ≡ LimitModules → limited ≡ false → Row.Limit ≡ rowOf limited (kindIn i mark) b
-    unfolding rowOf isLimit
-    row-limit m l = let z : isLimit k ≡ true = rw m in sym (rw (← ek, ← eq, e, z, l))
+    pub row-second-limit : k ≡ LimitModules → o .limited ≡ true → Row.Bad ≡ rowOf o (kindIn i mark) b
+    row-second-limit m l = sym (row-is true false (limits k m) ∙ rw l)
 
-pub ruleset row-laws = (row-bad, row-pass, row-twice, row-limit)
+    pub row-limit : k ≡ LimitModules → o .limited ≡ false → (x : Once) → x ≡ record { limited = true; statics = o .statics } → Row.Pass x ≡ rowOf o (kindIn i mark) b
+    row-limit m l x ex = sym (row-is true false (limits k m) ∙ rw (l, and-false (o .statics), or-false (o .statics), ex))
+
+    pub row-second-static : k ≡ Static → o .statics ≡ true → Row.Bad ≡ rowOf o (kindIn i mark) b
+    row-second-static m l = sym (row-is false true (statics k m) ∙ rw (l, and-false (o .limited)))
+
+    pub row-static : k ≡ Static → o .statics ≡ false → (x : Once) → x ≡ record { limited = o .limited; statics = true } → Row.Pass x ≡ rowOf o (kindIn i mark) b
+    row-static m l x ex = sym (row-is false true (statics k m) ∙ rw (l, and-false (o .limited), or-false (o .limited), ex))
+
+pub ruleset row-laws = (row-bad, row-other, row-second-limit, row-limit, row-second-static, row-static)
 
 -- ---- the check
 
--- the records before `at` pass, `limited` says whether an LM is among them, and those from `at` on decide
-pub record CheckAt (i : Input) (s : List ℕ) (limited : Bool) (at : ℕ) : Type 0 where
+-- the records before `at` pass, o says whether an LM and an ST are among them, and those from `at` on decide
+pub record CheckAt (i : Input) (s : List ℕ) (o : Once) (at : ℕ) : Type 0 where
   pub within : at ≤ length s
-  pub left : checkRecords i s ≡ checkRecordsFrom i (length s) limited at (records (drop at s))
+  pub left : checkRecords i s ≡ checkRecordsFrom i (length s) o at (records (drop at s))
 
 pub check-long : (i : Input) (s : List ℕ) → 65535 < length s → Refused (TooLarge 0) ≡ checkRecords i s
 unfolding checkRecords
 check-long i s l = rw (lt-ltb 65535 (length s) l)
 
-pub check-start : (i : Input) (s : List ℕ) → length s ≤ 65535 → CheckAt i s false 0
+pub check-start : (i : Input) (s : List ℕ) → length s ≤ 65535 → CheckAt i s noneOnce 0
 unfolding checkRecords
 check-start i s l = record { within = omega arith; left = rw (le-ltb 65535 (length s) l) }
 
-module _ (i : Input) (s : List ℕ) (limited : Bool) (at : ℕ) (h : CheckAt i s limited at) (step : Step) (es : step ≡ stepAt s at) where
+module _ (i : Input) (s : List ℕ) (o : Once) (at : ℕ) (h : CheckAt i s o at) (step : Step) (es : step ≡ stepAt s at) where
   module _ (mark start len : ℕ) (next : Cursor) (er : step ≡ Record mark start len next)
-      (b : List ℕ) (eb : b ≡ take len (drop start s)) (v : Row) (ev : v ≡ rowOf limited (kindIn i mark) b) where
+      (b : List ℕ) (eb : b ≡ take len (drop start s)) (v : Row) (ev : v ≡ rowOf o (kindIn i mark) b) where
     p : Stepped s at mark start len next
     p = stepped s at step es mark start len next er
 
-    turn : checkRecords i s ≡ rowOn v limited (Refused (Malformed i at)) (λ l. checkRecordsFrom i (length s) l (next .at) (records (drop (next .at) s)))
+    turn : checkRecords i s ≡ rowOn v (Refused (Malformed i at)) (λ o₂. checkRecordsFrom i (length s) o₂ (next .at) (records (drop (next .at) s)))
     unfolding checkRecordsFrom
     turn =
         h .left
@@ -114,13 +138,9 @@ module _ (i : Input) (s : List ℕ) (limited : Bool) (at : ℕ) (h : CheckAt i s
     unfolding rowOn
     check-row e = sym (turn ∙ rw e)
 
-    pub check-limit : v ≡ Row.Limit → CheckAt i s true (next .at)
+    pub check-pass : (o₂ : Once) → v ≡ Row.Pass o₂ → CheckAt i s o₂ (next .at)
     unfolding rowOn
-    check-limit e = record { within = omega (arith, p .next-is, p .room); left = turn ∙ rw e }
-
-    pub check-pass : v ≡ Row.Pass → CheckAt i s limited (next .at)
-    unfolding rowOn
-    check-pass e = record { within = omega (arith, p .next-is, p .room); left = turn ∙ rw e }
+    check-pass o₂ e = record { within = omega (arith, p .next-is, p .room); left = turn ∙ rw e }
 
   pub check-bad : step ≡ Bad → Refused (Malformed i at) ≡ checkRecords i s
   unfolding checkRecordsFrom
@@ -134,7 +154,7 @@ module _ (i : Input) (s : List ℕ) (limited : Bool) (at : ℕ) (h : CheckAt i s
       let l : length s ≤ at = stepped-end s at step es e in
       sym (h .left ∙ rw (records-end s at l, eq-eqb at (length s) (omega (arith, h .within))))
 
-pub ruleset check-laws = (check-long, check-start, check-row, check-limit, check-pass, check-bad, check-end, step-less)
+pub ruleset check-laws = (check-long, check-start, check-row, check-pass, check-bad, check-end, step-less)
 
 -- ---- what a good check shows
 
@@ -151,28 +171,31 @@ good-short i s e = go (ltb 65535 (length s)) refl
     go true eb = clash (cc)
     go false eb = ltb-false 65535 (length s) eb
 
-good-long : (i : Input) (s : List ℕ) → checkRecords i s ≡ Good → checkRecordsFrom i (length s) false 0 (records s) ≡ Good
+good-long : (i : Input) (s : List ℕ) → checkRecords i s ≡ Good → checkRecordsFrom i (length s) noneOnce 0 (records s) ≡ Good
 unfolding checkRecords
 good-long i s e = go (ltb 65535 (length s)) refl
   where
-    go : (b : Bool) → ltb 65535 (length s) ≡ b → checkRecordsFrom i (length s) false 0 (records s) ≡ Good
+    go : (b : Bool) → ltb 65535 (length s) ≡ b → checkRecordsFrom i (length s) noneOnce 0 (records s) ≡ Good
     go true eb = clash (cc)
     go false eb = rw eb at e
 
 -- a record that is not bad has a well-formed body
-row-good : (limited : Bool) (k : Kind) (b : List ℕ) (v : Row) → rowOf limited k b ≡ v → (v ≡ Row.Bad → ⊥) → isBody k b ≡ true
+row-good : (o : Once) (k : Kind) (b : List ℕ) (v : Row) → rowOf o k b ≡ v → (v ≡ Row.Bad → ⊥) → isBody k b ≡ true
 unfolding rowOf
-row-good limited k b v e n = go (isBody k b) refl e
+row-good o k b v e n = go (isBody k b) refl e
   where
-    go : (q : Bool) → isBody k b ≡ q → pickRow (q && not (limited && isLimit k)) (pickRow (isLimit k) Row.Limit Row.Pass) Row.Bad ≡ v → q ≡ true
+    passed : Row
+    passed = Row.Pass (record { limited = o .limited || sameKind k LimitModules; statics = o .statics || sameKind k Static })
+
+    go : (q : Bool) → isBody k b ≡ q → pickRow (q && not ((o .limited && sameKind k LimitModules) || (o .statics && sameKind k Static))) passed Row.Bad ≡ v → q ≡ true
     go true eq h = refl
     go false eq h = absurd (n (sym h))
 
 module _ (i : Input) (k : Kind) (ek : kindIn i (markFor k) ≡ k) where
-  good-from : (n : ℕ) (limited : Bool) (at : ℕ) (rs : List (List ℕ)) → checkRecordsFrom i n limited at rs ≡ Good → allBodies (isBody k) (bodiesIn k rs) ≡ true
+  good-from : (n : ℕ) (o : Once) (at : ℕ) (rs : List (List ℕ)) → checkRecordsFrom i n o at rs ≡ Good → allBodies (isBody k) (bodiesIn k rs) ≡ true
   unfolding checkRecordsFrom allBodies bodiesIn isOf rowOn
-  good-from n limited at [] e = refl
-  good-from n limited at (r ∷ rs) e = by-row (rowOf limited (kindIn i (markOf r)) (bodyOf r)) refl (λ l. good-from n l (at + length r) rs) e
+  good-from n o at [] e = refl
+  good-from n o at (r ∷ rs) e = by-row (rowOf o (kindIn i (markOf r)) (bodyOf r)) refl (λ o₂. good-from n o₂ (at + length r) rs) e
     where
       more : isBody (kindIn i (markOf r)) (bodyOf r) ≡ true → allBodies (isBody k) (bodiesIn k rs) ≡ true → (o : Bool) → eqb (markOf r) (markFor k) ≡ o → allBodies (isBody k) (bodiesIn k (r ∷ rs)) ≡ true
       more eb ih true eo =
@@ -181,16 +204,15 @@ module _ (i : Input) (k : Kind) (ek : kindIn i (markFor k) ≡ k) where
           rw (eo, v) ih
       more eb ih false eo = rw eo ih
 
-      by-row : (v : Row) → rowOf limited (kindIn i (markOf r)) (bodyOf r) ≡ v → ((l : Bool) → checkRecordsFrom i n l (at + length r) rs ≡ Good → allBodies (isBody k) (bodiesIn k rs) ≡ true)
-          → rowOn (rowOf limited (kindIn i (markOf r)) (bodyOf r)) limited (Refused (Malformed i at)) (λ l. checkRecordsFrom i n l (at + length r) rs) ≡ Good → allBodies (isBody k) (bodiesIn k (r ∷ rs)) ≡ true
+      by-row : (v : Row) → rowOf o (kindIn i (markOf r)) (bodyOf r) ≡ v → ((o₂ : Once) → checkRecordsFrom i n o₂ (at + length r) rs ≡ Good → allBodies (isBody k) (bodiesIn k rs) ≡ true)
+          → rowOn (rowOf o (kindIn i (markOf r)) (bodyOf r)) (Refused (Malformed i at)) (λ o₂. checkRecordsFrom i n o₂ (at + length r) rs) ≡ Good → allBodies (isBody k) (bodiesIn k (r ∷ rs)) ≡ true
       by-row Row.Bad ev ih h = let z : Refused (Malformed i at) ≡ Good = rw ev at h in clash (cc)
-      by-row Row.Limit ev ih h = more (row-good limited (kindIn i (markOf r)) (bodyOf r) Row.Limit ev (λ z. clash (cc))) (ih true (rw ev at h)) (eqb (markOf r) (markFor k)) refl
-      by-row Row.Pass ev ih h = more (row-good limited (kindIn i (markOf r)) (bodyOf r) Row.Pass ev (λ z. clash (cc))) (ih limited (rw ev at h)) (eqb (markOf r) (markFor k)) refl
+      by-row (Row.Pass o₂) ev ih h = more (row-good o (kindIn i (markOf r)) (bodyOf r) (Row.Pass o₂) ev (λ z. clash (cc))) (ih o₂ (rw ev at h)) (eqb (markOf r) (markFor k)) refl
 
 -- every body of a kind that the input knows is well-formed
 pub good-bodies : (i : Input) (s : List ℕ) → checkRecords i s ≡ Good → (k : Kind) → kindIn i (markFor k) ≡ k → allBodies (isBody k) (bodies k s) ≡ true
 unfolding bodies
-good-bodies i s e k ek = good-from i k ek (length s) false 0 (records s) (good-long i s e)
+good-bodies i s e k ek = good-from i k ek (length s) noneOnce 0 (records s) (good-long i s e)
 
 -- ---- the questions
 
@@ -214,6 +236,18 @@ module _ (s name : List ℕ) (r : Bool) (er : r ≡ sameBytes name javaBase) whe
         sym (rw (← er, e, f))
 
 pub ruleset permitted-laws = (permitted-base, permitted-limit, permitted-all)
+
+-- an ST is there just if the search finds one
+module _ (s : List ℕ) (n : Next) (en : n ≡ nextOf Static s 0) where
+  pub static-yes : (start len : ℕ) (next : Cursor) → n ≡ Body start len next → true ≡ requestOf s .hasStatic
+  unfolding requestOf hasAny
+  static-yes start len next e =
+      let f : bodies Static s ≡ take len (drop start s) ∷ bodies Static (drop (next .at) s) = bodies-next Static s 0 n en start len next e (omega arith) in
+      sym (rw f)
+
+  pub static-no : n ≡ Nothing → false ≡ requestOf s .hasStatic
+  unfolding requestOf hasAny
+  static-no e = let f : bodies Static s ≡ [] = bodies-end Static s 0 n en e in sym (rw f)
 
 -- an AR of these names is there just if the search finds one
 pub read-first : (source target : List ℕ) (bs : List (List ℕ)) → hasRead (map readOf bs) source target ≡ isFound (firstBody (source ∷ target ∷ []) bs)

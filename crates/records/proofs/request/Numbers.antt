@@ -11,14 +11,15 @@ use Rattle.records.specs.Descriptor.{moduleName}
 use Rattle.records.specs.Error.{numberOf}
 use Rattle.records.specs.Name.{allUnnamed, memName}
 use Rattle.records.specs.Record.{markOf, bodyOf, records, setKind, kindIn, isBody}
-use Rattle.records.specs.Request.{checkRecords, checkRecordsFrom, checkInputs, thenRequest, rowOf, rowOn, pickAnswer}
+use Rattle.records.specs.Request.{checkRecords, checkRecordsFrom, checkInputs, thenRequest, noneOnce, rowOf, rowOn, pickAnswer}
 use Rattle.records.specs.Set.{Passed, checkSet, checkFrom, judgeAt, passAt, admitAt, enterAt, isPlaced, goOn, pickChecked, pickVerdict, refused, accepted, noneYet, nameAt}
 use Rattle.records.specs.declared.error.Input.{Input}
 use Rattle.records.specs.declared.error.Input.the-variants as Input
 use Rattle.records.specs.declared.error.ModuleError.{ModuleError}
 use Rattle.records.specs.declared.error.ModuleError.the-variants.{Malformed, TooLarge, Repeated}
 use Rattle.records.specs.declared.record.Kind.{Kind}
-use Rattle.records.specs.declared.record.Kind.the-variants.{Module, Requires, Exports, Opens, Uses, Provides, Package, MainClass, Place, Root, LimitModules, AddReads, AddExports, AddOpens, Other}
+use Rattle.records.specs.declared.record.Kind.the-variants.{Module, Requires, Exports, Opens, Uses, Provides, Package, MainClass, Place, Root, LimitModules, AddReads, AddExports, AddOpens, Static, Other}
+use Rattle.records.specs.declared.request.Once.{Once}
 use Rattle.records.specs.declared.request.Row.{Row}
 use Rattle.records.specs.declared.request.Row.the-variants as Row
 use Rattle.records.specs.declared.request.RecordsAnswer.{RecordsAnswer}
@@ -81,6 +82,7 @@ pass-number s p at LimitModules b = tt
 pass-number s p at AddReads b = tt
 pass-number s p at AddExports b = tt
 pass-number s p at AddOpens b = tt
+pass-number s p at Static b = tt
 pass-number s p at Other b = tt
 
 judge-number : (s : List ℕ) (p : Passed) (at : ℕ) (k : Kind) (b : List ℕ) → OfVerdict (judgeAt s p at k b)
@@ -106,20 +108,19 @@ set-number s = pick-checked (ltb 65535 (length s)) _ _ (omega arith) (from-numbe
 
 -- ---- the request
 
-records-from-number : (i : Input) (n : ℕ) (rs : List (List ℕ)) (l : Bool) (at : ℕ) → OfRecords (checkRecordsFrom i n l at rs)
+records-from-number : (i : Input) (n : ℕ) (rs : List (List ℕ)) (o : Once) (at : ℕ) → OfRecords (checkRecordsFrom i n o at rs)
 unfolding checkRecordsFrom numberOf rowOn
-records-from-number i n [] l at = pick-answer (eqb at n) _ _ tt (omega arith)
-records-from-number i n (r ∷ rs) l at = turned (rowOf l (kindIn i (markOf r)) (bodyOf r)) (λ m. records-from-number i n rs m (at + length r))
+records-from-number i n [] o at = pick-answer (eqb at n) _ _ tt (omega arith)
+records-from-number i n (r ∷ rs) o at = turned (rowOf o (kindIn i (markOf r)) (bodyOf r)) (λ o₂. records-from-number i n rs o₂ (at + length r))
   where
-    turned : (w : Row) → ((m : Bool) → OfRecords (checkRecordsFrom i n m (at + length r) rs))
-        → OfRecords (rowOn w l (Records.Refused (Malformed i at)) (λ m. checkRecordsFrom i n m (at + length r) rs))
+    turned : (w : Row) → ((o₂ : Once) → OfRecords (checkRecordsFrom i n o₂ (at + length r) rs))
+        → OfRecords (rowOn w (Records.Refused (Malformed i at)) (λ o₂. checkRecordsFrom i n o₂ (at + length r) rs))
     turned Row.Bad next = omega arith
-    turned Row.Limit next = next true
-    turned Row.Pass next = next l
+    turned (Row.Pass o₂) next = next o₂
 
 records-number : (i : Input) (s : List ℕ) → OfRecords (checkRecords i s)
 unfolding checkRecords numberOf
-records-number i s = pick-answer (ltb 65535 (length s)) _ _ (omega arith) (records-from-number i (length s) (records s) false 0)
+records-number i s = pick-answer (ltb 65535 (length s)) _ _ (omega arith) (records-from-number i (length s) (records s) noneOnce 0)
 
 -- ---- both
 

@@ -22,7 +22,7 @@ use Rattle.records.specs.declared.record.Cursor.{Cursor}
 use Rattle.records.specs.declared.record.Step.{Step}
 use Rattle.records.specs.declared.record.Step.the-variants.{Record, Bad, End}
 use Rattle.records.specs.declared.record.Kind.{Kind}
-use Rattle.records.specs.declared.record.Kind.the-variants.{Module, Requires, Exports, Opens, Uses, Provides, Package, MainClass, Place, Root, LimitModules, AddReads, AddExports, AddOpens, Other}
+use Rattle.records.specs.declared.record.Kind.the-variants.{Module, Requires, Exports, Opens, Uses, Provides, Package, MainClass, Place, Root, LimitModules, AddReads, AddExports, AddOpens, Static, Other}
 use Rattle.records.specs.declared.finder.Found.{Found}
 use Rattle.records.specs.declared.finder.Found.the-variants.{At, Nothing}
 use Rattle.records.specs.declared.error.Input.the-variants.{Set}
@@ -69,7 +69,8 @@ placed-other count main LimitModules h = absurd (miss (1 ∷ 2 ∷ 3 ∷ 4 ∷ 5
 placed-other count main AddReads h = absurd (miss (1 ∷ 2 ∷ 3 ∷ 4 ∷ 5 ∷ 6 ∷ []) 11 tt h)
 placed-other count main AddExports h = absurd (miss (1 ∷ 2 ∷ 3 ∷ 4 ∷ 5 ∷ 6 ∷ []) 12 tt h)
 placed-other count main AddOpens h = absurd (miss (1 ∷ 2 ∷ 3 ∷ 4 ∷ 5 ∷ 6 ∷ []) 13 tt h)
-placed-other count main Other h = absurd (miss (1 ∷ 2 ∷ 3 ∷ 4 ∷ 5 ∷ 6 ∷ []) 14 tt h)
+placed-other count main Static h = absurd (miss (1 ∷ 2 ∷ 3 ∷ 4 ∷ 5 ∷ 6 ∷ []) 14 tt h)
+placed-other count main Other h = absurd (miss (1 ∷ 2 ∷ 3 ∷ 4 ∷ 5 ∷ 6 ∷ []) 15 tt h)
 
 pub ruleset placed-laws = (placed-told, placed-twice, placed-main, placed-other)
 
@@ -166,7 +167,7 @@ module _ (s : List ℕ) (p : Passed) (at : ℕ) (k : Kind) (b : List ℕ) where
 
 -- every kind but MO, MC and PL
 abbrev inner : List ℕ
-inner = 1 ∷ 2 ∷ 3 ∷ 4 ∷ 5 ∷ 6 ∷ 9 ∷ 10 ∷ 11 ∷ 12 ∷ 13 ∷ 14 ∷ []
+inner = 1 ∷ 2 ∷ 3 ∷ 4 ∷ 5 ∷ 6 ∷ 9 ∷ 10 ∷ 11 ∷ 12 ∷ 13 ∷ 14 ∷ 15 ∷ []
 
 pub pass-other : (s : List ℕ) (p : Passed) (at : ℕ) (k : Kind) (b : List ℕ) → OneOf inner (tagOf the-type k) → Pass ≡ passAt s p at k b
 unfolding passAt
@@ -184,6 +185,7 @@ pass-other s p at LimitModules b h = refl
 pass-other s p at AddReads b h = refl
 pass-other s p at AddExports b h = refl
 pass-other s p at AddOpens b h = refl
+pass-other s p at Static b h = refl
 pass-other s p at Other b h = refl
 
 pub ruleset pass-laws = (pass-module, pass-main, pass-ninth, pass-place, pass-other)
@@ -302,6 +304,7 @@ passed-room s p at LimitModules b e = clash (cc)
 passed-room s p at AddReads b e = clash (cc)
 passed-room s p at AddExports b e = clash (cc)
 passed-room s p at AddOpens b e = clash (cc)
+passed-room s p at Static b e = clash (cc)
 passed-room s p at Other b e = clash (cc)
 
 -- a Start is given only where the table has room

@@ -13,7 +13,7 @@ use Rattle.records.specs.Record.{markOf, bodyOf, recordMore, whole, reco
 use Rattle.records.specs.Descriptor.{moduleName}
 use Rattle.records.specs.Set.{Passed, noneYet, withModule, withMain, withPlace, bodyAt, nameAt, isPlaced, admitAt, enterAt, passAt, judgeAt, pickVerdict, pickChecked, refused, accepted, goOn, checkFrom, checkSet}
 use Rattle.records.specs.declared.record.Kind.{Kind}
-use Rattle.records.specs.declared.record.Kind.the-variants.{Module, Requires, Exports, Opens, Uses, Provides, Package, MainClass, Place, Root, LimitModules, AddReads, AddExports, AddOpens, Other}
+use Rattle.records.specs.declared.record.Kind.the-variants.{Module, Requires, Exports, Opens, Uses, Provides, Package, MainClass, Place, Root, LimitModules, AddReads, AddExports, AddOpens, Static, Other}
 use Rattle.records.specs.declared.error.Input.the-variants.{Set}
 use Rattle.records.specs.declared.error.ModuleError.{ModuleError}
 use Rattle.records.specs.declared.error.ModuleError.the-variants.{Malformed, TooLarge, Repeated}
@@ -41,6 +41,7 @@ isInner LimitModules = false
 isInner AddReads = false
 isInner AddExports = false
 isInner AddOpens = false
+isInner Static = false
 isInner Other = false
 
 record Inner (k : Kind) : Type 0 where
@@ -67,6 +68,7 @@ inner-is LimitModules e = clash (cc)
 inner-is AddReads e = clash (cc)
 inner-is AddExports e = clash (cc)
 inner-is AddOpens e = clash (cc)
+inner-is Static e = clash (cc)
 inner-is Other e = clash (cc)
 
 pub inner-kind : (k : Kind) → isInner k ≡ true → setKind (markFor k) ≡ k
@@ -211,6 +213,7 @@ module _ (s : List ℕ) (p : Passed) (at : ℕ) (r : List ℕ) (f : Passed → C
     passed AddReads k h g e = clash (cc)
     passed AddExports k h g e = clash (cc)
     passed AddOpens k h g e = clash (cc)
+    passed Static k h g e = clash (cc)
     passed Other k h g e = clash (cc)
 
     pub goes : goOn (judgeAt s p at (setKind (markOf r)) (bodyOf r)) p at f ≡ record { answer = Modules n; starts = t } → Goes

@@ -118,7 +118,7 @@ module _ (set request starts : List ℕ) (phase : Phase) (index names : List ℕ
   order-fresh = record { long = length-replicate {A = ℕ} 512 0; few = h .lookup .few; unmarked = λ i l. getD-replicate 512 (256 + i) 0 0 (omega (arith, l)) }
 
   pub order-later : length request ≤ 65535 → (old : List ℕ) (before : ℕ) → before ≤ length old
-      → Later set request starts old (record { count = phase .count; permitted = phase .permitted; in_round = true; before = before; limited = phase .limited; known = false }) index
+      → Later set request starts old (record { count = phase .count; permitted = phase .permitted; in_round = true; before = before; statics = phase .statics; limited = phase .limited; known = false }) index
   order-later s old before l = record {
     lookup = h .lookup;
     short = s;
@@ -126,6 +126,7 @@ module _ (set request starts : List ℕ) (phase : Phase) (index names : List ℕ
     later = refl;
     unknown = refl;
     free = h .limits .free;
+    statics = h .statics;
   }
 
 module _ (set request starts : List ℕ) (phase : Phase) (order packages : List ℕ) (q : Queue)
@@ -138,7 +139,7 @@ module _ (set request starts : List ℕ) (phase : Phase) (order packages : List 
 
   pub order-is : (order₂ : List ℕ) (r : Queue)
       → Moved (phase .count) order₂ r
-      (roundsAt (inputsOf set request starts order (record { count = phase .count; permitted = phase .permitted; in_round = true; before = q .tail; limited = phase .limited; known = false })) (suc (phase .count)) (lineAt order q))
+      (roundsAt (inputsOf set request starts order (record { count = phase .count; permitted = phase .permitted; in_round = true; before = q .tail; statics = phase .statics; limited = phase .limited; known = false })) (suc (phase .count)) (lineAt order q))
       → lineAt order₂ r ≡ resolveAt (inputsOf set request starts starts phase)
   unfolding resolveAt thenRounds inputsOf lineAt
   order-is order₂ r n =
@@ -150,20 +151,22 @@ pub ruleset order-laws = (order-fresh, order-later, order-running, order-within,
 -- ---- with and without an LM
 
 module _ (set request starts words : List ℕ) (count : ℕ) (index : List ℕ) (k : Lookup set starts count index) where
-  pub listed-tables : (table : List ℕ) (r : Listed) → LimitTold request table r
-      → Tables set request starts starts (record { count = count; permitted = words; in_round = false; before = 0; limited = true; known = r .known }) index (take (r .count) table) (take (r .count) table)
-  listed-tables table r h = record {
+  pub listed-tables : (st : Bool) → st ≡ requestOf request .hasStatic → (table : List ℕ) (r : Listed) → LimitTold request table r
+      → Tables set request starts starts (record { count = count; permitted = words; in_round = false; before = 0; statics = st; limited = true; known = r .known }) index (take (r .count) table) (take (r .count) table)
+  listed-tables st es table r h = record {
     lookup = k;
     limits = record { free = λ e. clash (cc); sorted = λ e b. h .sorted e; permits = λ e b. h .permits e };
     met = record { sorted = λ e b. clash (cc); sorted-needed = λ e b. clash (cc); met = λ e b. clash (cc) };
+    statics = es;
   }
 
-  pub free-tables : (l : Bool) → Limited request l → l ≡ false → (names : List ℕ)
-      → Tables set request starts starts (record { count = count; permitted = words; in_round = false; before = 0; limited = false; known = false }) index names names
-  free-tables l h e names = record {
+  pub free-tables : (st : Bool) → st ≡ requestOf request .hasStatic → (l : Bool) → Limited request l → l ≡ false → (names : List ℕ)
+      → Tables set request starts starts (record { count = count; permitted = words; in_round = false; before = 0; statics = st; limited = false; known = false }) index names names
+  free-tables st es l h e names = record {
     lookup = k;
     limits = record { free = λ z. h .free e; sorted = λ z. clash (cc); permits = λ z. clash (cc) };
     met = record { sorted = λ z. clash (cc); sorted-needed = λ z. clash (cc); met = λ z. clash (cc) };
+    statics = es;
   }
 
 pub listed-room : (request table : List ℕ) (r : Listed) → LimitTold request table r → r .count ≤ length table
@@ -172,10 +175,10 @@ listed-room request table r h = h .room
 pub listed-part : (request table : List ℕ) (r : Listed) → LimitTold request table r → r .count ≡ length (take (r .count) table)
 listed-part request table r h = sym (length-take-le (r .count) table (h .room))
 
-pub started : (set request starts words : List ℕ) (count : ℕ) (limited known : Bool) (l : Line)
-    → l ≡ resolveAt (inputsOf set request starts starts (record { count = count; permitted = words; in_round = false; before = 0; limited = limited; known = known })) → l ≡ resolveAt (startOn set request count starts words)
+pub started : (set request starts words : List ℕ) (count : ℕ) (statics limited known : Bool) (l : Line)
+    → l ≡ resolveAt (inputsOf set request starts starts (record { count = count; permitted = words; in_round = false; before = 0; statics = statics; limited = limited; known = known })) → l ≡ resolveAt (startOn set request count starts words)
 unfolding inputsOf
-started set request starts words count limited known l e = e
+started set request starts words count statics limited known l e = e
 
 pub ruleset listed-laws = (listed-tables, listed-room, listed-part, started)
 

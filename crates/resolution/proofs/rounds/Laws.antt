@@ -341,6 +341,7 @@ module _ (set request starts old : List ℕ) (phase : Phase) (index : List ℕ) 
     lookup = h .lookup;
     limits = record { free = h .free; sorted = λ e. clash (cc); permits = λ e. clash (cc) };
     met = record { sorted = λ e. clash (cc); sorted-needed = λ e. clash (cc); met = λ e. clash (cc) };
+    statics = h .statics;
   }
     where
       unknown : phase .known ≡ false
@@ -348,7 +349,7 @@ module _ (set request starts old : List ℕ) (phase : Phase) (index : List ℕ) 
 
   -- with one
   pub later-told : (roots needed : List ℕ) (n : ℕ) (r : Listed) → RootsTold request roots n → NamesTold true set starts old 0 (phase .before) needed r
-      → Tables set request starts old (record { count = phase .count; permitted = phase .permitted; in_round = phase .in_round; before = phase .before; limited = true; known = r .known }) index (take n roots) (take (r .count) needed)
+      → Tables set request starts old (record { count = phase .count; permitted = phase .permitted; in_round = phase .in_round; before = phase .before; statics = phase .statics; limited = true; known = r .known }) index (take n roots) (take (r .count) needed)
   unfolding isMetBefore inputsOf isRequired requiresIn blockOf
   later-told roots needed n r a b =
       let t : phase .in_round ≡ true = h .later in
@@ -356,6 +357,7 @@ module _ (set request starts old : List ℕ) (phase : Phase) (index : List ℕ) 
         lookup = h .lookup;
         limits = record { free = λ e. clash (cc); sorted = λ e k. clash (cc); permits = λ e k. clash (cc) };
         met = record { sorted = λ e k. a .sorted; sorted-needed = λ e k. b .sorted; met = λ e k x. rw (a .told x, b .told e x, tells-required set starts (take (phase .before) old) x) };
+        statics = h .statics;
       }
 
 pub roots-room : (request table : List ℕ) (n : ℕ) → RootsTold request table n → n ≤ length table
@@ -379,7 +381,7 @@ later-set count set starts order packages q h = h .short
 -- whether names are known does not matter for what the rounds give
 pub told-moved : (set request starts old : List ℕ) (phase : Phase) (known : Bool) (order : List ℕ) (r : Queue) (l : Line)
     → Moved (phase .count) order r
-    (roundsAt (inputsOf set request starts old (record { count = phase .count; permitted = phase .permitted; in_round = phase .in_round; before = phase .before; limited = true; known = known })) (suc (phase .count)) l)
+    (roundsAt (inputsOf set request starts old (record { count = phase .count; permitted = phase .permitted; in_round = phase .in_round; before = phase .before; statics = phase .statics; limited = true; known = known })) (suc (phase .count)) l)
     → Moved (phase .count) order r (roundsAt (inputsOf set request starts old phase) (suc (phase .count)) l)
 unfolding inputsOf
 told-moved set request starts old phase known order r l m = m

@@ -8,8 +8,8 @@ use lib.ListN.{length, take, length-map}
 use lib.Seq.{take-length}
 use Rattle.records.specs.Bytes.{sameBytes}
 use Rattle.records.specs.Name.{javaBase, memName, nameOf}
-use Rattle.records.specs.Descriptor.{requirementOf}
-use Rattle.records.specs.Request.{requestOf, isPermitted}
+use Rattle.records.specs.Descriptor.{requirementOf, Requirement}
+use Rattle.records.specs.Request.{requestOf, isPermitted, Request}
 use Rattle.records.specs.Set.{nameAt}
 use Rattle.records.specs.Finder.{findName}
 use Rattle.records.specs.Order.{nameIn, isOrdered}
@@ -21,6 +21,7 @@ use Rattle.records.specs.declared.error.ModuleError.the-variants.{ModuleNotFoun
 use Rattle.records.specs.declared.finder.Found.{Found}
 use Rattle.records.specs.declared.finder.Found.the-variants.{At, Nothing}
 use Rattle.records.proofs.finder.Modules.{found-at}
+use Rattle.resolution.specs.Resolution.{leads}
 use Rattle.resolution.specs.Row.{holds}
 use Rattle.resolution.specs.Resolver.{Inputs, inputsOf, blockOf, locate, isMetBefore, wantAbsent, wantUnfound, wantFound, want, wantRecord, Within}
 use Rattle.resolution.specs.Filter.{askedBefore}
@@ -191,14 +192,36 @@ module _ (set request starts old : List ℕ) (phase : Phase) (index names needed
   pub want-met : Met set request starts old phase names needed
   want-met = h .met
 
+  pub want-statics : phase .statics ≡ requestOf request .hasStatic
+  want-statics = h .statics
+
 pub ruleset want-laws = (want-few, want-inside, want-indexed, want-limits, want-met, want-add, want-pass, want-optional, want-unfound, within-add, within-pass)
 
 -- ---- a record
 
-pub want-requires : (w : Inputs) (input : Input) (b n : List ℕ) (start : ℕ) (static : Bool) (r : Wanted) → input ≡ Input.Set → n ≡ requirementOf b .name → static ≡ requirementOf b .static
-    → r ≡ want w n static (ModuleNotFound Input.Set (start + 3) (length n)) → r ≡ wantRecord w input b start
-unfolding wantRecord
-want-requires w input b n start static r ei en es er = er ∙ rw (ei, en, es)
+-- whether a requirement leads
+module _ (r : Requirement) (static : Bool) (es : static ≡ r .static) (statics : Bool) where
+  pub leads-static : static ≡ true → (rq : Request) → statics ≡ rq .hasStatic → statics ≡ leads rq r
+  unfolding leads
+  leads-static t rq e = e ∙ sym (rw (← es, t))
+
+  pub leads-not-static : static ≡ false → (rq : Request) → statics ≡ rq .hasStatic → true ≡ leads rq r
+  unfolding leads
+  leads-not-static f rq e = sym (rw (← es, f))
+
+pub ruleset leads-laws = (leads-static, leads-not-static)
+
+module _ (set request starts old : List ℕ) (phase : Phase) (input : Input) (ei : input ≡ Input.Set) (b : List ℕ) (start : ℕ)
+    (es : phase .statics ≡ requestOf request .hasStatic) (l : Bool) (el : (rq : Request) → phase .statics ≡ rq .hasStatic → l ≡ leads rq (requirementOf b)) where
+  pub want-over : l ≡ false → Pass ≡ wantRecord (inputsOf set request starts old phase) input b start
+  unfolding wantRecord inputsOf
+  want-over f = sym (rw (ei, ← (el (requestOf request) es), f))
+
+  pub want-requires : l ≡ true → (n : List ℕ) (static : Bool) (r : Wanted) → n ≡ requirementOf b .name → static ≡ requirementOf b .static
+      → r ≡ want (inputsOf set request starts old phase) n static (ModuleNotFound Input.Set (start + 3) (length n))
+      → r ≡ wantRecord (inputsOf set request starts old phase) input b start
+  unfolding wantRecord inputsOf
+  want-requires t n static r en et er = er ∙ sym (rw (ei, ← (el (requestOf request) es), t, ← en, ← et))
 
 pub want-root : (w : Inputs) (input : Input) (b n : List ℕ) (start : ℕ) (r : Wanted) → input ≡ Input.Request → n ≡ nameOf b
     → r ≡ want w n false (ModuleNotFound Input.Request (start + 1) (length n)) → r ≡ wantRecord w input b start
@@ -209,4 +232,4 @@ pub want-none : (w : Inputs) (input : Input) (b : List ℕ) (start : ℕ) → in
 unfolding wantRecord
 want-none w input b start ei = sym (rw ei)
 
-pub ruleset record-laws = (want-requires, want-root, want-none, within-pass)
+pub ruleset record-laws = (want-statics, want-over, want-requires, want-root, want-none, within-pass)

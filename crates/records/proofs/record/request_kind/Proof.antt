@@ -14,4 +14,5 @@ request-kind-spec =
     (λ c. search (kind-at requestKind, request-other, needs))
     (λ c. search (kind-at requestKind, request-other, needs))
     (λ c. search (kind-at requestKind, request-other, needs))
+    (λ c. search (kind-at requestKind, request-other, needs))
     (λ c. search (kind-at requestKind, request-other, needs)))

@@ -6,10 +6,10 @@ use Rattle.records.proofs.request.check_records.Statement.{statement}
 use Rattle.records.proofs.request.check_records.Tie as tie
 
 abbrev Inv-loop : tie.InvT-loop
-Inv-loop input s c₀ limited₀ c limited = CheckAt input s limited (c .at)
+Inv-loop input s c₀ once₀ c once = CheckAt input s once (c .at)
 
 abbrev μ-loop : tie.MeasureT-loop
-μ-loop input s c₀ limited₀ c limited = length s - c .at
+μ-loop input s c₀ once₀ c once = length s - c .at
 
 pub check-records-spec : {M : Type 1} → statement M
 check-records-spec =
@@ -23,9 +23,6 @@ check-records-spec =
     (λ c. search (check-laws, needs))
     (λ c κs. search (check-laws, needs))
     (λ c κs. search (check-laws, needs))
-    (λ c. search (check-laws, needs))
-    (λ c. search (check-laws, needs))
-    (λ c. search (check-laws, needs))
     (λ c. search (check-laws, needs))
     (λ c. search (check-laws, needs))
     (λ c. search (check-laws, needs))

@@ -13,4 +13,7 @@ judge-spec =
     (λ c. search (row-laws, needs))
     (λ c. search (row-laws, needs))
     (λ c. search (row-laws, needs))
+    (λ c. search (row-laws, needs))
+    (λ c. search (row-laws, needs))
+    (λ c. search (row-laws, needs))
     (λ c. search (row-laws, needs)))

@@ -28,4 +28,6 @@ is-placed-spec =
     (λ c. search (placed-laws, needs))
     (λ c. search (placed-laws, needs))
     (λ c. search (placed-laws, needs))
+    (λ c. search (placed-laws, needs))
+    (λ c. search (placed-laws, needs))
     (λ c. search (placed-laws, needs)))

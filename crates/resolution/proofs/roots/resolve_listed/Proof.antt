@@ -8,6 +8,7 @@ resolve-listed-spec =
     tie.close
     (tie.spec
     (λ c κs. search (listed-laws, needs))
+    (λ c κs. search (listed-laws, needs))
     (λ c. search (listed-laws, needs))
     (λ c. search (listed-laws, needs))
     (λ c κs. search (listed-laws, needs))

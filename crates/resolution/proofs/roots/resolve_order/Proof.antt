@@ -11,4 +11,5 @@ resolve-order-spec =
     (λ c κs. search (free-laws, needs))
     (λ c. search (free-laws, needs))
     (λ c κs. search (free-laws, needs))
+    (λ c κs. search (free-laws, needs))
     (λ c. search (free-laws, needs)))

@@ -9,9 +9,11 @@ want-record-spec =
     (tie.spec
     (λ c. search (record-laws, needs))
     (λ c κs. search (record-laws, needs))
+    (λ c κs. search (record-laws, needs))
     (λ c. search (record-laws, needs))
     (λ c κs. search (record-laws, needs))
     (λ c κs. search (record-laws, needs))
+    (λ c. search (record-laws, needs))
     (λ c. search (record-laws, needs))
     (λ c κs. search (record-laws, needs))
     (λ c. search (record-laws, needs))

@@ -38,4 +38,6 @@ mark-spec =
     (λ c. search (mark-told, needs))
     (λ c. search (mark-told, needs))
     (λ c. search (mark-told, needs))
+    (λ c. search (mark-told, needs))
+    (λ c. search (mark-told, needs))
     (λ c. search (mark-told, needs)))
