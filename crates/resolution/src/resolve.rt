@@ -39,11 +39,10 @@ fn resolve_checked(set: &[u8], request: &[u8], starts: &[usize], count: usize) -
     add_all(set, starts, count, &mut index);
     let row = permitted(set, request, starts, count, &index);
     let done = resolve_order(set, request, starts, count, row, &index);
-    let order = done.order;
     let queue = done.queue;
     let halt = queue.halt;
     match halt {
-        Halt::Open => configure(set, request, starts, count, &index, &order, queue.tail),
+        Halt::Open => configure(set, request, starts, count, &index, &done.order, queue.tail),
         Halt::Stop(e) => refuse(e),
         Halt::Refused(e) => refuse(e),
     }
