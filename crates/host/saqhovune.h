@@ -4,6 +4,9 @@
  * first place. Of modules of one name, which stand in different places, the first from the front counts and hides the others. Positions
  * count all modules of the set from 0, hidden ones too; a hidden module is checked like others, and is never a member.
  *
+ * With one record ST of an empty body in the request, static requirements (RQ with flag 0x0040) bring in permitted modules of the set.
+ * Without it they bring nothing in, and are read edges where both modules are resolved by other means.
+ *
  * A slice is a pointer and a length. The caller is trusted with this, and nothing of it is checked: every pointer is not null and is
  * aligned, also that of a slice of length 0, and leads to as many elements as the length or the array's type says; what is written,
  * row and particulars included, overlaps no other argument; nobody else writes an argument during the call; a bool is 0 or 1; there is

@@ -8,7 +8,7 @@ use std::fmt;
 
 /// A requirement that is read by whoever reads its module.
 pub const TRANSITIVE: u16 = 0x0020;
-/// A requirement that may be absent.
+/// A requirement that may be absent; it brings its module in only where the request has [`with_static`].
 pub const STATIC: u16 = 0x0040;
 /// An open module.
 pub const OPEN: u16 = 0x0020;
@@ -106,6 +106,12 @@ pub fn root(n: &str) -> Vec<u8> {
 /// The permitted names (LM).
 pub fn limit(names: &[&str]) -> Vec<u8> {
     record(b"LM", &list(names))
+}
+
+/// Static requirements bring in permitted modules of the set (ST); a request has it at most once. Without it they bring nothing
+/// in, and are read edges where both modules start by other means.
+pub fn with_static() -> Vec<u8> {
+    record(b"ST", &[])
 }
 
 /// A read edge to be added (AR).

@@ -47,6 +47,19 @@ fn malformed() {
 }
 
 #[test]
+fn malformed_static() {
+    for fault in [with_static(), record(b"ST", b"\0")] {
+        let request = [root("a"), with_static(), fault].concat();
+        let refusal = Refusal::Malformed { input: Input::Request, offset: 10 };
+        is(&base(), &request, refusal, 1, "the request's record at offset 10 is malformed");
+    }
+    let refusal = Refusal::Malformed { input: Input::Request, offset: 6 };
+    is(&base(), &[root("a"), record(b"ST", b"\0")].concat(), refusal, 1, "the request's record at offset 6 is malformed");
+    let refusal = Refusal::Malformed { input: Input::Set, offset: 18 };
+    is(&[base(), with_static()].concat(), &[], refusal, 1, "the set's record at offset 18 is malformed");
+}
+
+#[test]
 fn too_large() {
     let long = vec![0; 65_536];
     let refusal = Refusal::TooLarge { offset: 0 };

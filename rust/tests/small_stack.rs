@@ -19,8 +19,8 @@ fn link(i: usize) -> String {
 }
 
 /// Each module of the chain requires the next, and names a service and a package; `bound` provides one, so that it comes up in a
-/// round, and requires `late`. Both `m0` and `bound` require a module that is absent and not permitted. As many packages follow as
-/// there is room for.
+/// round, and has a static requirement of `late`. Both `m0` and `bound` require a module that is absent and not permitted. As many
+/// packages follow as there is room for.
 fn set() -> Vec<u8> {
     let mut set = [module("java.base"), package("java/lang"), exports("java/lang", &[])].concat();
     for i in 0..CHAIN {
@@ -33,7 +33,7 @@ fn set() -> Vec<u8> {
         }
     }
     set.extend(module("late"));
-    set.extend([module_with("bound", OPEN, false, "1"), requires("late", 0), requires("unlisted", 0)].concat());
+    set.extend([module_with("bound", OPEN, false, "1"), requires("late", STATIC), requires("unlisted", 0)].concat());
     set.extend(provides("s/7", &["q/Seven"]));
     let last = [place(), module("m0")].concat();
     for i in 0.. {
@@ -46,7 +46,7 @@ fn set() -> Vec<u8> {
     [set, last].concat()
 }
 
-/// The first of the chain as root, an LM with every module and thousands of others, as many roots as there is room for.
+/// The first of the chain as root, an LM with every module and thousands of others, as many roots as there is room for, ST.
 fn request() -> Vec<u8> {
     let others = (0..3_000).map(|i| format!("other.{i}"));
     let permitted: Vec<_> = (0..CHAIN).map(link).chain(["late".into(), "bound".into()]).chain(others).collect();
@@ -55,12 +55,12 @@ fn request() -> Vec<u8> {
     request.extend([add_export("java.base", "java/util", "m0"), add_open("java.base", "java/lang", "m0")].concat());
     for i in 0.. {
         let more = root(&link(i % CHAIN));
-        if request.len() + more.len() > 65_535 {
+        if request.len() + more.len() + with_static().len() > 65_535 {
             break;
         }
         request.extend(more);
     }
-    request
+    [request, with_static()].concat()
 }
 
 #[test]
