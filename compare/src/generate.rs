@@ -117,11 +117,16 @@ fn modules(r: &mut Random, s: &mut System) {
     let absent = *r.choose(&[0, 0, 0, 2, 10, 30]); // of 100 requirements
     let shared = *r.choose(&[0, 0, 0, 3, 15, 40]); // of 100 modules: a package that others may have
     let optional = *r.choose(&[10, 30, 60]);
+    let both = *r.choose(&[0, 0, 10, 30]); // of 100 requirements: static and not
+    let missing = *r.choose(&[0, 0, 0, 30]); // of 100 modules: one requirement more, of one absent name
+    let more = *r.choose(&[0, 20, 60, 90]); // of 100 modules: one static requirement more
     let transitive = *r.choose(&[15, 40, 80]);
     let automatic = *r.choose(&[0, 10, 30]);
     let open = *r.choose(&[0, 15, 40]);
     let dense = *r.choose(&[50, 100, 150, 300]);
     let chain = r.chance(30); // several rounds of services
+    let provided = *r.choose(&[95, 95, 70]); // of 100 modules there
+    let required = *r.choose(&[0, 20, 60]); // of 100 users there: a static requirement of the provider
     let services = *r.choose(&[1, 2, 4, 6, n, n]);
     let service = |i: usize| format!("s/{}", i % services);
     let mut chained: Vec<usize> = (0..n).collect();
@@ -146,16 +151,27 @@ fn modules(r: &mut Random, s: &mut System) {
             flags |= if r.chance(20) { *r.choose(&[0x8000, 0x1000, 0x0001, 0xFF9F]) } else { 0 };
             let long = "v".repeat(255);
             body.push(requires_with(&target, flags, r.pick(&["", "", "1.0", &long])));
+            if r.chance(both) {
+                body.push(requires(&target, flags ^ STATIC));
+            }
         }
-        if r.chance(6) {
-            let target = r.choose(&s.absent).clone();
-            body.push(requires(&target, STATIC | *r.choose(&[0, TRANSITIVE])));
+        if r.chance(missing) {
+            body.push(requires(&s.absent[0], *r.choose(&[0, STATIC, STATIC, STATIC | TRANSITIVE])));
+        }
+        for (from, p) in [(&s.absent, 6), (&s.names, more)] {
+            if r.chance(p) {
+                let target = r.choose(from);
+                body.push(requires(target, STATIC | *r.choose(&[0, TRANSITIVE])));
+            }
         }
         if chain {
             if r.chance(95) {
                 body.push(uses(&service(chained[i] + 1)));
+                if let Some(provider) = chained.iter().position(|k| *k == chained[i] + 1).filter(|_| r.chance(required)) {
+                    body.push(requires(&s.names[provider], STATIC | *r.choose(&[0, TRANSITIVE])));
+                }
             }
-            if r.chance(95) {
+            if r.chance(provided) {
                 body.push(provides(&service(chained[i]), &["i/a", "i/b"][..r.below(3)]));
             }
         }
@@ -228,6 +244,9 @@ fn requests(r: &mut Random, s: &mut System) {
             all.push(limit(&strings(&keep)));
         }
         _ => {}
+    }
+    if r.chance(50) {
+        all.push(with_static());
     }
     for _ in 0..r.count(90) {
         all.push(add_read(&s.any_name(r, 8), &s.any_name(r, 10)));

@@ -11,4 +11,5 @@ pub mod random;
 pub mod readers;
 pub mod records;
 pub mod report;
+pub mod second;
 pub mod systems;

@@ -1,4 +1,5 @@
-//! Compares the library with the original on random inputs: compare SYSTEMS QUESTIONS JARS SEED [CLASS FILE...].
+//! Compares the library with the original on random inputs: compare SYSTEMS QUESTIONS JARS SEED [CLASS FILE...]. The original does
+//! not know requests without ST: second.rs resolves these.
 //!
 //! SYSTEMS sets with their requests, QUESTIONS for each of them over the resolved and over an arbitrary configuration, JARS jar
 //! names and as many class files, and the class files given. The seeds of the inputs count up from SEED, so a difference of

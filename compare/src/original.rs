@@ -6,7 +6,7 @@ use crate::module::finder::ModuleFinder;
 use crate::module::reference::ModuleReference;
 use crate::module::resolution::{ResolvedConfiguration, ResolvedModule, Resolver};
 use crate::records::{Request, text, write_descriptor};
-use saqhovune::Configuration;
+use saqhovune::{Configuration, Input, Refusal};
 use std::collections::{BTreeMap, BTreeSet};
 
 /// A set and a request as the original has them: the modules by their positions, hidden ones too.
@@ -34,18 +34,39 @@ impl Inputs {
         v
     }
 
+    /// The original's resolution, which is that of a request with ST.
     pub fn resolve(&self) -> Result<ResolvedConfiguration, ModuleError> {
         self.resolver().resolve(&self.request.roots, &chain(&self.modules))
     }
 
-    /// The resolution without services, and so without rounds.
-    pub fn resolve_without_rounds(&self) -> Result<ResolvedConfiguration, ModuleError> {
+    fn changed(&self, change: impl Fn(&mut ModuleDescriptor)) -> Self {
         let modules = self.modules.iter().map(|m| {
             let mut d = m.descriptor().clone();
-            d.uses.clear();
+            change(&mut d);
             ModuleReference::new(d, m.source().clone(), m.location().cloned())
         });
-        self.resolver().resolve(&self.request.roots, &chain(&modules.collect::<Vec<_>>()))
+        Inputs { modules: modules.collect(), request: self.request.clone() }
+    }
+
+    /// Without services, and so without rounds.
+    pub fn without_rounds(&self) -> Self {
+        self.changed(|d| d.uses.clear())
+    }
+
+    pub fn has_static(&self) -> bool {
+        self.modules.iter().any(|m| m.descriptor().requires.iter().any(|r| r.is_static()))
+    }
+
+    pub fn without_static(&self) -> Self {
+        self.changed(|d| d.requires.retain(|r| !r.is_static()))
+    }
+
+    /// What the original resolves where these members are the roots and the permitted names: they, with their edges.
+    pub fn resolve_members(&self, of: &ResolvedConfiguration) -> ResolvedConfiguration {
+        let names: Vec<String> = of.modules().map(|m| m.name().to_string()).collect();
+        let request = Request { roots: names.clone(), limit: Some(names), ..self.request.clone() };
+        let members = Inputs { modules: self.modules.clone(), request };
+        members.resolve().expect("the members resolve together")
     }
 
     /// Of each position, whether the original's chain has its module; else that is hidden.
@@ -73,6 +94,36 @@ impl Inputs {
 
     pub fn has_package(&self, name: &str, package: &str) -> bool {
         self.position(name).is_some_and(|i| self.modules[i].descriptor().packages.contains(package))
+    }
+
+    /// A refusal of the library as the original's, if it is one of a resolution.
+    pub fn told(&self, set: &[u8], request: &[u8], e: &Refusal) -> Option<ModuleError> {
+        let observable = self.observable();
+        let name = |i: usize| self.modules.get(i).filter(|_| observable[i]).map(|m| m.name().to_string());
+        match *e {
+            Refusal::ModuleNotFound { input, start, len } => {
+                let bytes = if input == Input::Set { set } else { request };
+                Some(ModuleError::ModuleNotFound(text(bytes.get(start..start + len)?)))
+            }
+            Refusal::JavaBaseNotFound => Some(ModuleError::ModuleNotFound("java.base".into())),
+            Refusal::SplitPackage { start, len, owner, second } => Some(ModuleError::SplitPackage {
+                package: text(set.get(start..start + len)?),
+                module1: name(owner)?,
+                module2: name(second)?,
+            }),
+            _ => None,
+        }
+    }
+
+    /// A resolution of the library or of second.rs as the original's.
+    pub fn as_original(
+        &self,
+        set: &[u8],
+        request: &[u8],
+        resolved: &Result<Configuration, Refusal>,
+    ) -> Result<ResolvedConfiguration, ModuleError> {
+        let cause = |e: &Refusal| self.told(set, request, e).expect("a refusal of a resolution");
+        resolved.as_ref().map(|c| self.configured(c)).map_err(cause)
     }
 
     /// Whether a refusal of the original names something that is so.

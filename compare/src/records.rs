@@ -1,5 +1,5 @@
-//! Sets and requests as the original's descriptors, and descriptors as records: a second reading of document 01 and, for places,
-//! of document 02.
+//! Sets and requests as the original's descriptors, and descriptors as records: a second reading of document 01 and, for places
+//! and ST, of document 02.
 use crate::module::descriptor::{Exports, ModuleDescriptor, ModuleFlags, Opens, Provides, Requires, RequiresFlags};
 use crate::module::reference::{ModuleReference, ModuleSource};
 use std::collections::HashSet;
@@ -184,10 +184,11 @@ pub fn parse_set(b: &[u8]) -> Result<Vec<ModuleReference>, Bad> {
         .collect())
 }
 
-#[derive(Default, Debug)]
+#[derive(Clone, Default, Debug)]
 pub struct Request {
     pub roots: Vec<String>,
     pub limit: Option<Vec<String>>,
+    pub with_static: bool,
     pub reads: Vec<(String, String)>,
     pub exports: Vec<(String, String, String)>,
     pub opens: Vec<(String, String, String)>,
@@ -208,6 +209,12 @@ pub fn parse_request(b: &[u8]) -> Result<Request, Bad> {
                         return None;
                     }
                     r.limit = Some(c.list()?);
+                }
+                b"ST" => {
+                    if r.with_static {
+                        return None;
+                    }
+                    r.with_static = true;
                 }
                 b"AR" => r.reads.push((c.name()?, c.name()?)),
                 b"AE" => r.exports.push((c.name()?, c.name()?, c.name()?)),

@@ -1,14 +1,14 @@
 //! Sets and requests: resolution, questions, the graph.
 use crate::generate::{self, System};
 use crate::module::access::AccessCheck;
-use crate::module::error::ModuleError;
 use crate::module::graph::ModuleGraph;
 use crate::module::resolution::ResolvedConfiguration;
 use crate::original::{Inputs, listing};
 use crate::random::Random;
 use crate::records::{parse_both, text};
 use crate::report::Report;
-use saqhovune::form::{self, Record, module, place, record, records};
+use crate::second;
+use saqhovune::form::{self, Record, module, place, record, records, with_static};
 use saqhovune::{Configuration, Input, Refusal, Row, WORDS};
 use std::collections::BTreeSet;
 
@@ -24,7 +24,9 @@ pub fn compare(report: &mut Report, seed: u64, questions: usize) {
     report.compare("checks", seed, &"", saqhovune::check(&s.set, &s.request), Ok(inputs.modules.len()));
     let places: Vec<_> = form::modules(&s.set).map(|m| (m.place, m.hidden_by)).collect();
     report.compare("places as the crate lists them", seed, &"", places, inputs.places());
-    let kinds = kinds(&s, &inputs);
+    let second = second::resolve(&s.set, &s.request);
+    check_second(report, seed, &s, &inputs, &second);
+    let kinds = kinds(&s, &inputs, &second);
     kinds.iter().for_each(|kind| report.count(kind[0]));
 
     let mut words = [PATTERN; WORDS + 1];
@@ -36,11 +38,16 @@ pub fn compare(report: &mut Report, seed: u64, questions: usize) {
     report.compare("resolutions into too few words", seed, &"", refused, expected);
     report.hold("too few words left as they were", seed, &"", short == [PATTERN; WORDS - 1]);
 
-    match (library, inputs.resolve()) {
+    let resolved = library.map(|_| Configuration::from_words(words[..WORDS].try_into().unwrap()));
+    let refusals = (resolved.as_ref().err(), second.as_ref().err());
+    report.hold("resolutions (by a second reading)", seed, &refusals, resolved == second);
+    let with_static = inputs.request.with_static;
+    let original = if with_static { inputs.resolve() } else { inputs.as_original(&s.set, &s.request, &second) };
+    match (library, original) {
         (Ok(n), Ok(original)) => {
             report.count("systems accepted");
             kinds.iter().for_each(|kind| report.count(kind[1]));
-            let c = Configuration::from_words(words[..WORDS].try_into().unwrap());
+            let c = resolved.expect("the library accepts");
             report.compare("numbers of members", seed, &"", (n, c.len()), (original.len(), original.len()));
             report.compare("listings", seed, &"", listing_of(&s, &names, &c), listing(&original));
             let others = (0..256).filter(|i| !c.contains(*i));
@@ -58,10 +65,14 @@ pub fn compare(report: &mut Report, seed: u64, questions: usize) {
             kinds.iter().for_each(|kind| report.count(kind[2]));
             report.hold("words left as they were on a refusal", seed, &"", words == [PATTERN; WORDS + 1]);
             report.hold("causes of the library true", seed, &e, cause_is_true(&s, &inputs, &e));
-            report.hold("causes of the original true", seed, &cause, inputs.is_true(&cause));
-            match inputs.resolve_without_rounds() {
-                Err(_) => report.compare("refusals before the rounds", seed, &e, told(&s, &inputs, &e), Some(cause)),
-                Ok(_) => report.count("refusals inside a round (both refuse)"),
+            if with_static {
+                report.hold("causes of the original true", seed, &cause, inputs.is_true(&cause));
+                match inputs.without_rounds().resolve() {
+                    Err(_) => {
+                        report.compare("refusals before the rounds", seed, &e, inputs.told(&s.set, &s.request, &e), Some(cause))
+                    }
+                    Ok(_) => report.count("refusals inside a round (both refuse)"),
+                }
             }
         }
         (library, original) => {
@@ -73,14 +84,58 @@ pub fn compare(report: &mut Report, seed: u64, questions: usize) {
     let which = if r.chance(50) { Input::Set } else { Input::Request };
     damaged(report, seed, r, &s, which);
     damaged_places(report, seed, r, &s);
+    damaged_static(report, seed, r, &s);
     let any = Configuration::from_words(generate::words(r));
     let original = inputs.configured(&any);
     ask(report, seed, r, &s, &names, &any, &original, questions, "arbitrary");
 }
 
+/// The second reading is held to the original. Without ST the original is asked without the static requirements for the members
+/// and refusals, and with them for the edges between these members.
+fn check_second(report: &mut Report, seed: u64, s: &System, inputs: &Inputs, second: &Result<Configuration, Refusal>) {
+    let with_static = inputs.request.with_static;
+    let kind = |a: &'static str, b: &'static str| if with_static { a } else { b };
+    let model = if with_static { inputs } else { &inputs.without_static() };
+    match (second, model.resolve()) {
+        (Ok(c), Ok(original)) => {
+            let original = if with_static { original } else { inputs.resolve_members(&original) };
+            let kind = kind("second reading with ST: listings", "second reading without ST: listings");
+            report.compare(kind, seed, &"", listing(&inputs.configured(c)), listing(&original));
+        }
+        (Err(e), Err(cause)) if model.without_rounds().resolve().is_err() => {
+            let kind = kind(
+                "second reading with ST: refusals before the rounds",
+                "second reading without ST: refusals before the rounds",
+            );
+            report.compare(kind, seed, e, inputs.told(&s.set, &s.request, e), Some(cause));
+        }
+        (Err(_), Err(_)) => report.count(kind(
+            "second reading with ST: refusals inside a round (both refuse)",
+            "second reading without ST: refusals inside a round (both refuse)",
+        )),
+        (second, original) => {
+            let original = original.map(|c| c.len());
+            report.compare("second reading: outcomes", seed, &original, second.is_ok(), original.is_ok());
+        }
+    }
+}
+
 /// What to count a system under: always, where it is accepted, and where it is refused.
-fn kinds(s: &System, inputs: &Inputs) -> Vec<[&'static str; 3]> {
+fn kinds(s: &System, inputs: &Inputs, second: &Result<Configuration, Refusal>) -> Vec<[&'static str; 3]> {
     let mut kinds = Vec::new();
+    if inputs.request.with_static {
+        kinds.push(["systems with ST", "systems with ST accepted", "systems with ST refused (5 to 7)"]);
+    } else {
+        kinds.push(["systems without ST", "systems without ST accepted", "systems without ST refused (5 to 7)"]);
+        if second::resolve(&s.set, &[&s.request[..], &with_static()].concat()) != *second {
+            let kind = [
+                "systems without ST that ST would change",
+                "systems without ST that ST would change accepted",
+                "systems without ST that ST would change refused (5 to 7)",
+            ];
+            kinds.push(kind);
+        }
+    }
     if records(&s.set).any(|r| r.mark == b"PL") {
         kinds.push(["systems with PL", "systems with PL accepted", "systems with PL refused (5 to 7)"]);
     }
@@ -163,6 +218,22 @@ fn damaged_places(report: &mut Report, seed: u64, r: &mut Random, s: &System) {
     refused(report, seed, &"places", &all.concat(), &s.request);
 }
 
+/// A request with ST put in, also with a body, or a set with ST.
+fn damaged_static(report: &mut Report, seed: u64, r: &mut Random, s: &System) {
+    let split = |input: &[u8]| -> Vec<Vec<u8>> { records(input).map(|x| record(x.mark.try_into().unwrap(), x.body)).collect() };
+    let (mut set, mut request) = (split(&s.set), split(&s.request));
+    for _ in 0..r.within(1, 2) {
+        let body: &[u8] = r.pick(&[&b"\0"[..], b"\x01a", &[b'a'; 300]]);
+        match r.below(8) {
+            0 => set.insert(r.below(set.len() + 1), with_static()),
+            1 => request.insert(r.below(request.len() + 1), record(b"ST", body)),
+            2 => request.retain(|x| !x.starts_with(b"ST")),
+            _ => request.insert(r.below(request.len() + 1), with_static()),
+        }
+    }
+    refused(report, seed, &"ST", &set.concat(), &request.concat());
+}
+
 /// Refusals 1 to 3, or the number of modules, as records.rs, a second reading of the documents, has them.
 fn refused(report: &mut Report, seed: u64, of: &dyn std::fmt::Debug, set: &[u8], request: &[u8]) {
     let expected = parse_both(set, request).map(|(modules, _)| modules.len()).map_err(|bad| match bad.number {
@@ -175,6 +246,21 @@ fn refused(report: &mut Report, seed: u64, of: &dyn std::fmt::Debug, set: &[u8],
         report.compare("resolutions of damaged inputs", seed, of, saqhovune::resolve(set, request), Err(e));
         let verdict = saqhovune::check_access(set, request, &Configuration::from_words([0; WORDS]), b"a", b"a", b"");
         report.compare("questions of damaged inputs", seed, of, verdict, Err(e));
+    }
+    if records(request).any(|r| r.mark == b"ST") || records(set).any(|r| r.mark == b"ST") {
+        report.count(match expected {
+            Ok(_) => "damaged inputs with ST accepted",
+            Err(Refusal::Malformed { input: Input::Request, offset }) if request[offset..].starts_with(b"ST\0\0") => {
+                "damaged inputs with ST refused (1 at a second ST)"
+            }
+            Err(Refusal::Malformed { input: Input::Request, offset }) if request[offset..].starts_with(b"ST") => {
+                "damaged inputs with ST refused (1 at an ST with a body)"
+            }
+            Err(Refusal::Malformed { input: Input::Set, offset }) if set[offset..].starts_with(b"ST") => {
+                "damaged inputs with ST refused (1 at an ST in the set)"
+            }
+            Err(_) => "damaged inputs with ST refused otherwise",
+        });
     }
     if records(set).any(|r| r.mark == b"PL") {
         let at = |offset: usize| set[offset..].starts_with(b"PL");
@@ -227,25 +313,6 @@ fn listing_of(s: &System, names: &[String], c: &Configuration) -> String {
     out
 }
 
-/// The refusal as the original's, if it is one of a resolution.
-fn told(s: &System, inputs: &Inputs, e: &Refusal) -> Option<ModuleError> {
-    let observable = inputs.observable();
-    let name = |i: usize| inputs.modules.get(i).filter(|_| observable[i]).map(|m| m.name().to_string());
-    match *e {
-        Refusal::ModuleNotFound { input, start, len } => {
-            let bytes = if input == Input::Set { &s.set } else { &s.request };
-            Some(ModuleError::ModuleNotFound(text(bytes.get(start..start + len)?)))
-        }
-        Refusal::JavaBaseNotFound => Some(ModuleError::ModuleNotFound("java.base".into())),
-        Refusal::SplitPackage { start, len, owner, second } => Some(ModuleError::SplitPackage {
-            package: text(s.set.get(start..start + len)?),
-            module1: name(owner)?,
-            module2: name(second)?,
-        }),
-        _ => None,
-    }
-}
-
 /// Whether the refusal names something that is so, at a place that has it.
 fn cause_is_true(s: &System, inputs: &Inputs, e: &Refusal) -> bool {
     // Where the first name of a record starts in its input, and its length.
@@ -282,7 +349,7 @@ fn cause_is_true(s: &System, inputs: &Inputs, e: &Refusal) -> bool {
         }
         _ => true,
     };
-    has_place && told(s, inputs, e).is_some_and(|cause| inputs.is_true(&cause))
+    has_place && inputs.told(&s.set, &s.request, e).is_some_and(|cause| inputs.is_true(&cause))
 }
 
 fn row_names(names: &[String], row: &Row) -> BTreeSet<String> {

@@ -1,5 +1,5 @@
-//! Refusals 1 to 3, by hand from document 01: each fault stands right behind a part that is good, and its offset is that part's
-//! length.
+//! Refusals 1 to 3, by hand from document 01 and, for ST, U6 of document 02: each fault stands right behind a part that is good, and
+//! its offset is that part's length.
 use super::{REQUEST, SET, System, system};
 use saqhovune::form::*;
 
@@ -148,6 +148,19 @@ fn rules() -> Vec<System> {
         set("a second MC that is the same is malformed", 1, &main(), &main_class("M")),
         request("a second LM is malformed", &[limit(&["a"])], &limit(&["b"])),
         request("a second LM that is the same is malformed", &[limit(&[]), root("a")], &limit(&[])),
+        request("a second ST is malformed", &[with_static(), root("a")], &with_static()),
+        request("a second ST right behind the first is malformed", &[with_static()], &with_static()),
+        request("a second ST with a byte in its body is malformed", &[with_static()], &longer(with_static())),
+        request("ST with a byte in its body is malformed", &[root("a")], &longer(with_static())),
+        request("ST with a name in its body is malformed", &[], &record(b"ST", &name("a"))),
+        request("a second ST before a second LM", &[with_static(), limit(&[])], &[with_static(), limit(&[])].concat()),
+        request("a second LM before a second ST", &[with_static(), limit(&[])], &[limit(&[]), with_static()].concat()),
+        cut_request("an ST past the end is malformed", &[root("a")], b"ST\0\x01"),
+        cut_request("three bytes of an ST are malformed", &[root("a")], b"ST\0"),
+        set("ST in a set is malformed", 1, &base(), &with_static()),
+        set("ST in front of a set is malformed", 1, &[], &with_static()),
+        set("ST behind PL is malformed", 1, &[module("java.base"), place()], &with_static()),
+        set("ST with a byte in a set is malformed", 1, &base(), &longer(with_static())),
         set("a module name seen before is refused with 3", 3, &a(), &module("a")),
         set("java.base twice is refused with 3", 3, &a(), &module("java.base")),
         set("a name seen before with other flags is refused with 3", 3, &a(), &module_with("a", OPEN, true, "1")),

@@ -1,8 +1,9 @@
 //! A fixed list of small cases with the original's answers, for the test program `answers`, whose main.rt tells the layout.
 //!
 //! The original gives members, read edges, owners, readers, verdicts, jar names and the causes of refusals 5 to 7, 9 and 10. It
-//! must give the same under any hashing. It has no refusals 1 to 4 and no offsets in an input: those are by document 01 and, for
-//! places, U2 of document 02, and the list names them by hand.
+//! must give the same under any hashing. Static requirements without ST, which it does not know, are resolved by second.rs, which
+//! must agree everywhere else. The original has no refusals 1 to 4 and no offsets in an input: those are by document 01 and, for
+//! places and ST, U2 and U6 of document 02, and the list names them by hand.
 mod access;
 mod configurations;
 mod jars;
@@ -11,6 +12,7 @@ mod places;
 mod queue;
 mod reads;
 mod rounds;
+mod statics;
 
 use crate::module::access::{AccessCheck, AccessCheckResult};
 use crate::module::error::ModuleError;
@@ -18,8 +20,9 @@ use crate::module::graph::ModuleGraph;
 use crate::module::resolution::ResolvedConfiguration;
 use crate::original::{self, Inputs, listing};
 use crate::records::{parse_both, text};
+use crate::second;
 use saqhovune::form::{Record, module_names, records};
-use saqhovune::{Configuration, WORDS};
+use saqhovune::{Configuration, Input, Refusal};
 use std::collections::BTreeSet;
 use std::fs;
 use std::path::Path;
@@ -248,17 +251,13 @@ fn configuration(inputs: &Inputs, c: &ResolvedConfiguration) -> (Vec<u8>, usize)
 
 /// The same words for members and edges given.
 fn given(members: &[usize], edges: &[(usize, usize)]) -> (Configuration, Vec<u8>) {
-    let mut words = [0u64; WORDS];
-    let mut set = |at: usize, i: usize| words[at + i / 64] |= 1 << (i % 64);
-    members.iter().for_each(|i| set(0, *i));
-    edges.iter().for_each(|(i, j)| if *j == 256 { set(1028, *i) } else { set(4 + 4 * i, *j) });
     let mut out = Vec::new();
     put_row(&mut out, members.iter().copied());
     for i in 0..edges.iter().map(|e| e.0 + 1).max().unwrap_or(0) {
         put_row(&mut out, edges.iter().filter(|e| e.0 == i && e.1 < 256).map(|e| e.1));
         out.push(u8::from(edges.contains(&(i, 256))));
     }
-    (Configuration::from_words(words), out)
+    (second::configuration(members, edges), out)
 }
 
 /// A refusal of the original: its number, particulars and line.
@@ -294,6 +293,16 @@ fn resolved(s: &System, inputs: &Inputs) -> Result<ResolvedConfiguration, Module
     first
 }
 
+/// The particulars of a refusal of a resolution.
+fn particulars(e: &Refusal) -> Vec<u8> {
+    match *e {
+        Refusal::ModuleNotFound { input: Input::Set, start, len } => refusal(SET, start, len, 0, 0),
+        Refusal::ModuleNotFound { start, len, .. } => refusal(REQUEST, start, len, 0, 0),
+        Refusal::SplitPackage { start, len, owner, second } => refusal(SET, start, len, owner, second),
+        _ => refusal(0, 0, 0, 0, 0),
+    }
+}
+
 impl Out {
     fn start(&mut self, name: &str, kind: u8, which: usize, what: &'static str) {
         put(&mut self.cases, name.as_bytes());
@@ -305,7 +314,7 @@ impl Out {
     fn system(&mut self, s: &System) {
         let parsed = parse_both(&s.set, &s.request);
         if let What::Refused(r) = &s.what {
-            // The second reading of document 01 must say the same.
+            // The second reading of the documents (records.rs) must say the same.
             let bad = parsed.err().map(|b| (b.number, b.offset));
             assert_eq!(bad, Some((r.number, r.at)), "{}", s.name);
             self.start(&s.name, b'R', 0, "refusals 1 to 3");
@@ -330,8 +339,16 @@ impl Out {
                 self.lines += &format!(" asked{line}\n");
             }
             What::Resolved { requirement } => {
-                let (number, answer, asked) = match resolved(s, &inputs) {
+                let second = second::resolve(&s.set, &s.request);
+                let outcome = if inputs.request.with_static || !inputs.has_static() {
+                    resolved(s, &inputs)
+                } else {
+                    inputs.as_original(&s.set, &s.request, &second)
+                };
+                let (number, answer, asked) = match outcome {
                     Ok(c) => {
+                        let same = second.is_ok_and(|second| listing(&inputs.configured(&second)) == listing(&c));
+                        assert!(same, "{}: the second reading differs", s.name);
                         let (answer, edges) = configuration(&inputs, &c);
                         line += &format!(" resolved {} reads {edges}", c.len());
                         (0, answer, entries(s, &inputs, &c, &mut line))
@@ -339,6 +356,8 @@ impl Out {
                     Err(cause) => {
                         assert!(s.entries.is_empty(), "{}: refused", s.name);
                         let (number, answer, told) = refused(s, &inputs, &cause, *requirement);
+                        let second = second.err().map(|e| (e.number(), particulars(&e)));
+                        assert_eq!(second.as_ref(), Some(&(number, answer.clone())), "{}: the second reading differs", s.name);
                         line += &told;
                         (number, answer, Vec::new())
                     }
@@ -387,7 +406,8 @@ impl Out {
 pub fn write(folder: &Path) -> std::io::Result<()> {
     let mut out = Out::default();
     let systems = [malformed::systems(), queue::systems(), rounds::systems(), reads::systems(), access::systems()];
-    let systems: Vec<System> = systems.into_iter().flatten().chain(configurations::systems()).chain(places::systems()).collect();
+    let systems = systems.into_iter().flatten().chain(configurations::systems()).chain(places::systems());
+    let systems: Vec<System> = systems.chain(statics::systems()).collect();
     let jars = jars::jars();
     let mut names: Vec<&str> = systems.iter().map(|s| s.name.as_str()).chain(jars.iter().map(|j| j.name.as_str())).collect();
     names.sort();

@@ -166,7 +166,11 @@ fn hidden() -> Vec<System> {
         system("places: a hidden requirement makes no edge", &[twice(&[], &[requires("b", 0)])], &[root("a"), root("b")])
             .graph("b"),
         system("places: a hidden requirement of an absent module passes", &[twice(&[], &[requires("x", 0)])], &[root("a")]),
-        system("places: a hidden static requirement brings nothing in", &[twice(&[], &[requires("b", STATIC)])], &[root("a")]),
+        system(
+            "places: a hidden static requirement brings nothing in",
+            &[twice(&[], &[requires("b", STATIC)])],
+            &[root("a"), with_static()],
+        ),
         system(
             "places: a hidden transitive requirement passes nothing on",
             &[twice(&[], &[requires("b", TRANSITIVE)]), module("d"), requires("a", 0)],

@@ -85,7 +85,14 @@ fn forms() -> Vec<System> {
                 module("c"),
                 main_class("c/Main"),
             ],
-            &[root("a"), limit(&["a", "b", "c"]), add_read("b", UNNAMED), add_export("a", "a/q", "b"), add_open("a", "a/q", "c")],
+            &[
+                root("a"),
+                limit(&["a", "b", "c"]),
+                with_static(),
+                add_read("b", UNNAMED),
+                add_export("a", "a/q", "b"),
+                add_open("a", "a/q", "c"),
+            ],
         )
         .ask("b", "a", "a/p")
         .ask("b", "a", "a/q")
@@ -142,7 +149,11 @@ fn roots() -> Vec<System> {
         system("java.base absent as the first root: 6 before 5", &[], &[root("java.base"), root("a")]),
         system("java.base absent as a later root behind a good one", &[module("a")], &[root("a"), root("java.base")]),
         system("java.base absent though LM is empty", &[module("a")], &[limit(&[])]),
-        system("java.base absent as a static requirement alone", &[module("a"), requires("java.base", STATIC)], &[root("a")]),
+        system(
+            "java.base absent as a static requirement alone",
+            &[module("a"), requires("java.base", STATIC)],
+            &[root("a"), with_static()],
+        ),
         system("java.base absent though not permitted: it always passes", &[module("a")], &[root("a"), limit(&["a"])]),
         system("an absent root behind a good one", &[two()], &[root("a"), root("x")]),
         system("the first of two absent roots", &[two()], &[root("y"), root("x")]),
@@ -201,27 +212,27 @@ fn requirements() -> Vec<System> {
         system("an absent transitive requirement", &[base(), module("a"), requires("x", TRANSITIVE)], &[root("a")]),
         system("an absent requirement of java.base", &[base(), requires("x", 0)], &[]),
         system("an absent requirement of a module that is not needed", &[base(), module("a"), requires("x", 0)], &[]),
-        system("a static requirement that is absent", &[base(), module("a"), requires("x", STATIC)], &[root("a")]),
+        system("a static requirement that is absent", &[base(), module("a"), requires("x", STATIC)], &[root("a"), with_static()]),
         system(
             "a static transitive requirement that is absent",
             &[base(), module("a"), requires("x", STATIC | TRANSITIVE)],
-            &[root("a")],
+            &[root("a"), with_static()],
         ),
         system(
             "a static requirement that is observable",
             &[base(), module("a"), requires("x", STATIC), module("x")],
-            &[root("a")],
+            &[root("a"), with_static()],
         )
         .graph("x"),
         system(
             "a static requirement that is not permitted",
             &[base(), module("a"), requires("x", STATIC), module("x")],
-            &[root("a"), limit(&["a"])],
+            &[root("a"), limit(&["a"]), with_static()],
         ),
         system(
             "an absent static requirement queues nothing: the later one is at fault",
             &[base(), module("a"), requires("x", STATIC), requires("x", 0)],
-            &[root("a")],
+            &[root("a"), with_static()],
         ),
         system(
             "of two modules that require an absent one the first handled is at fault",
@@ -250,7 +261,7 @@ fn requirements() -> Vec<System> {
         system(
             "a requirement named twice",
             &[base(), module("a"), requires("b", 0), requires("b", STATIC), module("b")],
-            &[root("a")],
+            &[root("a"), with_static()],
         ),
         system(
             "a long chain",

@@ -29,8 +29,10 @@ fn reach() -> Vec<System> {
             .graph("c"),
         system("one's own transitive requirement gives nothing more", &[chain(TRANSITIVE, 0)], &[root("a")]).ask("a", "c", "k"),
         system("both transitive", &[chain(TRANSITIVE, TRANSITIVE)], &[root("a")]).ask("a", "c", "k").graph("b"),
-        system("a static transitive requirement counts", &[chain(0, TRANSITIVE | STATIC)], &[root("a")]).ask("a", "c", "k"),
-        system("a static requirement is read where resolved", &[chain(STATIC, STATIC)], &[root("a")]).ask("b", "c", "k"),
+        system("a static transitive requirement counts", &[chain(0, TRANSITIVE | STATIC)], &[root("a"), with_static()])
+            .ask("a", "c", "k"),
+        system("a static requirement is read where resolved", &[chain(STATIC, STATIC)], &[root("a"), with_static()])
+            .ask("b", "c", "k"),
         system(
             "a transitive requirement that is not resolved is not read",
             &[chain(0, TRANSITIVE)],

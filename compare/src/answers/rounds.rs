@@ -126,7 +126,7 @@ fn limits() -> Vec<System> {
         system(
             "a provider's static requirement that is not permitted",
             &[bound(&[requires("q", STATIC), module("q")])],
-            &[root("a"), limit(&["a", "p"])],
+            &[root("a"), limit(&["a", "p"]), with_static()],
         ),
         system(
             "LM cuts a chain of providers",
@@ -154,16 +154,16 @@ fn refusals() -> Vec<System> {
             &[bound(&[requires("x", 0)])],
             &[root("x"), root("a"), limit(&["a", "p"])],
         ),
-        system("in a round an absent static requirement passes", &[bound(&[requires("x", STATIC)])], &[root("a")]),
+        system("in a round an absent static requirement passes", &[bound(&[requires("x", STATIC)])], &[root("a"), with_static()]),
         system(
             "in a round an observable static requirement is pulled in",
             &[bound(&[requires("q", STATIC), module("q")])],
-            &[root("a")],
+            &[root("a"), with_static()],
         ),
         system(
             "in a round the requirement behind a static one of the same name is at fault",
             &[bound(&[requires("x", STATIC), requires("x", 0)])],
-            &[root("a")],
+            &[root("a"), with_static()],
         ),
         system("in a round a transitive absent requirement refuses", &[bound(&[requires("x", TRANSITIVE)])], &[root("a")]),
         system(

@@ -1,7 +1,8 @@
 // Replays the fixed list of answers in the file `cases`: resolutions with their refusals, verdicts, owners and readers over resolved
 // and over other configurations, and records of jars. Each line tells the answer given here, and what differs from the stored one.
-// tests/answers makes the list: by the original at the commit named in NOTICE, built unchanged, and by hand from document 01 and,
-// for places, U2 of document 02 for what the original does not answer. Refusal 8 and class files are in the program `classes`.
+// tests/answers makes the list: by the original at the commit named in NOTICE, built unchanged; by compare/src/second.rs for static
+// requirements without ST, which the original does not know; and by hand from document 01 and, for places and ST, U2 and U6 of
+// document 02 for what neither answers. Refusal 8 and class files are in the program `classes`.
 //
 // A text is its length in four bytes and its bytes. A row is four words of positions, then one byte: 1 with ALL-UNNAMED, else 0. A
 // configuration is the four words of its members and a row for each position from 0 on. A refusal is which input (0 none, 1 set,
