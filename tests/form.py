@@ -1,4 +1,4 @@
-"""The byte form of sets and requests (document 01, "The set and the request")."""
+"""The byte form of sets and requests (document 01, "The set and the request"; U2 and U6 of document 02)."""
 
 
 def name(s):
@@ -15,6 +15,8 @@ def module(n):
 
 # the start of a place
 place = record(b"PL", b"")
+# static requirements bring modules in
+with_static = record(b"ST", b"")
 
 
 def requires(n, flags=0):

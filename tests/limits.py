@@ -3,7 +3,7 @@
 import os
 import sys
 
-from form import base, listing, module, name, package, place, record, requires
+from form import base, listing, module, name, package, place, record, requires, with_static
 
 
 def filled(size):
@@ -18,6 +18,13 @@ def filled(size):
     rest = size - len(s)
     s += package(b"q" * (rest - 5))
     assert len(s) == size
+    return s
+
+
+def filled_request():
+    """Roots, the last one as long as fits, and ST behind them: 65,535 bytes in all."""
+    s = b"".join(record(b"RT", name(b"%0255d" % k)) for k in range(252)) + record(b"RT", name(b"q" * 6)) + with_static
+    assert len(s) == 65535
     return s
 
 
@@ -41,6 +48,7 @@ files = {
     "set-cut-off": base + package(b"java/lang")[:-1],
     "set-unknown-mark": base + record(b"XX", b""),
     "set-root-in-set": base + record(b"RT", name(b"a")),
+    "set-static-in-set": base + with_static,
     "set-no-module-first": package(b"java/lang") + base,
     "set-requires-unnamed": base + requires(b"ALL-UNNAMED"),
     "set-second-main-class": base + record(b"MC", name(b"A")) + record(b"MC", name(b"A")),
@@ -52,6 +60,9 @@ files = {
     "set-repeated-across-places": module(b"a") + place + module(b"b") + place + module(b"a"),
     "request-second-limit": record(b"RT", name(b"a")) + limit + limit,
     "request-module": module(b"a"),
+    "request-65535-bytes": filled_request(),
+    "request-second-static": with_static + limit + with_static,
+    "request-static-body": record(b"RT", name(b"a")) + record(b"ST", name(b"a")),
     "packages-export": package(b"b") + record(b"EX", name(b"b") + b"\0\0"),
     "packages-three": package(b"b/c") + package(b"a") + package(b"b") + package(b"a"),
     "jar-255": b"a" * 251 + b".jar",

@@ -23,7 +23,9 @@ public class Differences {
             : take(words, "open") ? ModuleDescriptor.newOpenModule(name) : ModuleDescriptor.newModule(name);
         while (!words.isEmpty()) {
             String mark = words.pop();
-            Set<Modifier> flags = take(words, "static") ? Set.of(Modifier.STATIC) : Set.of();
+            Set<Modifier> flags = EnumSet.noneOf(Modifier.class);
+            if (take(words, "static")) flags.add(Modifier.STATIC);
+            if (take(words, "transitive")) flags.add(Modifier.TRANSITIVE);
             String what = words.pop().replace('/', '.');
             Set<String> to = take(words, "to") ? Set.of(words.pop()) : null;
             b = switch (mark) {
@@ -154,7 +156,10 @@ public class Differences {
         Files.createFile(Files.createDirectories(broken.resolve("a")).resolve("module-info.class"));
 
         System.out.println("Resolution and places: the modules resolved, each with those of them that it reads");
-        resolved("a RQ static b; b", "a");
+        resolved("a RQ static b; b", "a"); // without ST b is left out here too; with ST it is resolved, and a reads it
+        resolved("a RQ static b; b", "a", "b");
+        resolved("d RQ a; a RQ static transitive b; b", "d", "b");
+        resolved("a RQ static b, US java/lang/Runnable; b PV java/lang/Runnable", "a");
         resolved("a RQ x; x automatic; y automatic", "a", "y");
         resolved("x automatic; y automatic", "x");
         say("a US java/lang/Runnable; x.jar with META-INF/services/java.lang.Runnable; root a", () ->

@@ -8,7 +8,7 @@ import os
 import sys
 
 sys.path.insert(0, "tests")
-from form import base, listed, listing, module, name, package, place, record, requires
+from form import base, listed, listing, module, name, package, place, record, requires, with_static
 
 
 def root(n):
@@ -21,7 +21,13 @@ reader = listed(b"PV", b"page/Reader", [b"page/Impl"])
 only_core = record(b"LM", (1).to_bytes(2, "big") + name(b"page.core"))
 # page.frames and page.lines are in no set below. page.core requires the first
 without = base + core + requires(b"page.frames")
-# a static requirement queues nothing; both providers are bound in one round, and page.foot is handled first
+# page.proof is needed by a static requirement alone
+proof = (
+    base + core + requires(b"page.proof", 0x40)
+    + module(b"page.proof") + package(b"page/proof") + listed(b"EX", b"page/proof", [])
+)
+of_proof = root(b"page.proof")
+# an absent static requirement queues nothing; both providers are bound in one round, and page.foot is handled first
 bound = (
     base + core + requires(b"page.lines", 0x40) + record(b"US", name(b"page/Reader"))
     + foot + requires(b"page.frames") + reader + notes + requires(b"page.lines") + reader
@@ -33,9 +39,14 @@ long = bytes(65536)
 
 LISTING = open("crates/resolve/stdout").read()
 BASE = "module java.base\nmodule {}\nreads java.base\n"
+PROOF = (
+    "resolved 3\n" + BASE.format("page.core") + "reads page.proof\nmodule page.proof\nreads java.base\n"
+    "owner page/proof page.proof\n"
+)
 ABSENT = "{} is not in the set\n"
 HIDDEN = "page.foot of place 2 is hidden by place 1\npage.foot of place 4 is hidden by place 1\n"
 MISSING = "{}: cannot read the file {}: No such file or directory\n"
+OF_PROOF = "page.core page.proof page/proof"
 USAGE = "usage: ask ASKER TARGET PACKAGE\n"
 
 # case: set, request, standard output, standard error
@@ -45,7 +56,13 @@ RESOLVE = {
     "an absent second root": (base + core, of_core + of_foot, "refused 5\n", ABSENT.format("page.foot")),
     "an absent requirement": (without, of_core, "refused 5\n", ABSENT.format("page.frames")),
     "an absent requirement in a round": (bound, of_core, "refused 5\n", ABSENT.format("page.frames")),
+    "an absent requirement in a round, with ST": (bound, of_core + with_static, "refused 5\n", ABSENT.format("page.frames")),
     "an absent requirement that is not permitted": (without, of_core + only_core, "resolved 2\n" + BASE.format("page.core"), ""),
+    "a static requirement": (proof, of_core, "resolved 2\n" + BASE.format("page.core"), ""),
+    "a static requirement, with ST": (proof, of_core + with_static, PROOF, ""),
+    "a static requirement, with ST in front": (proof, with_static + of_core, PROOF, ""),
+    "a static requirement of a root": (proof, of_core + of_proof, PROOF, ""),
+    "a second ST": (proof, with_static + of_core + with_static, "refused 1\n", ""),
     "hidden modules": (hiding, of_foot, "resolved 2\n" + BASE.format("page.foot"), HIDDEN),
     "hidden modules and an absent root": (hiding, of_frames, "refused 5\n", ABSENT.format("page.frames") + HIDDEN),
     "no java.base": (core, of_core, "refused 6\n", ""),
@@ -60,6 +77,9 @@ RESOLVE = {
 # case: set, request, arguments, standard output, standard error
 ASK = {
     "a question": (listing, of_core, "page.core page.frames page/frame", "access NotExported\nreflection NotOpened\n", ""),
+    "a static requirement": (proof, of_core, OF_PROOF, "access NotReadable\nreflection NotReadable\n", ""),
+    "a static requirement, with ST": (proof, of_core + with_static, OF_PROOF, "access Allowed\nreflection NotOpened\n", ""),
+    "a second ST": (proof, with_static * 2, "a b p", "refused 1\n", ""),
     "an absent root": (base, of_core, "a b p", "refused 5\n", ABSENT.format("page.core")),
     "an absent requirement": (without, of_core, "a b p", "refused 5\n", ABSENT.format("page.frames")),
     "no java.base": (core, of_core, "a b p", "refused 6\n", ""),

@@ -124,6 +124,7 @@ fn malformed() {
     set(b"set-cut-off");
     set(b"set-unknown-mark");
     set(b"set-root-in-set");
+    set(b"set-static-in-set");
     set(b"set-no-module-first");
     set(b"set-requires-unnamed");
     set(b"set-second-main-class");
@@ -134,6 +135,9 @@ fn malformed() {
 fn requests() {
     rows(Input::Request, b"request-second-limit");
     rows(Input::Request, b"request-module");
+    rows(Input::Request, b"request-65535-bytes");
+    rows(Input::Request, b"request-second-static");
+    rows(Input::Request, b"request-static-body");
     rows(Input::Packages, b"packages-export");
     rows(Input::Packages, b"packages-three");
 }
