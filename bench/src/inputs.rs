@@ -25,14 +25,15 @@ pub fn class_files(folder: &Path) -> Vec<(String, Vec<u8>)> {
     files
 }
 
-/// (a) The modules of a JDK, from its own class files; root java.se.
+/// (a) The modules of a JDK, from its own class files; root java.se, and ST, as some may have static requirements.
 pub fn jdk(files: &[(String, Vec<u8>)]) -> System {
     let records = files.iter().map(|(name, file)| {
         saqhovune::from_class_file_vec(file).unwrap_or_else(|e| panic!("the module-info.class of {name}: {e}"))
     });
     let set: Vec<u8> = records.flatten().collect();
     assert!(set.len() <= LIMIT, "the JDK's {} modules take {} bytes, more than a set may have", files.len(), set.len());
-    System { of: format!("(a) {} modules of the JDK, root java.se", files.len()), set, request: root("java.se") }
+    let request = [root("java.se"), with_static()].concat();
+    System { of: format!("(a) {} modules of the JDK, root java.se", files.len()), set, request }
 }
 
 /// (a) where no JDK is at hand: 70 modules of about the same shape.
@@ -104,7 +105,7 @@ pub fn many() -> System {
             }
         }
     }
-    System { of: "(b) 256 modules".into(), set, request: [root(&name(200)), root(&name(255))].concat() }
+    System { of: "(b) 256 modules".into(), set, request: [root(&name(200)), root(&name(255)), with_static()].concat() }
 }
 
 /// (c) Document 01's listing.

@@ -205,13 +205,21 @@ fn resolutions(t: &mut Table) {
         },
         root("a"),
     );
+    let optional = |n: &str| {
+        let set = [modules((1..254).map(|i| name(2, i))), module("zz"), module("a")].concat();
+        fill(set, LIMIT, |_| requires(n, STATIC | TRANSITIVE))
+    };
+    t.resolve("256 modules, 6,000 static RQ of an absent name, ST", optional("~~"), [root("a"), with_static()].concat());
+    t.resolve("256 modules, 6,000 static RQ of an absent name, no ST", optional("~~"), root("a"));
     t.resolve(
-        "256 modules, 6,000 static RQ of an absent name",
-        {
-            let set = modules((1..255).map(|i| name(2, i)));
-            fill([set, module("a")].concat(), LIMIT, |_| requires("~~", STATIC | TRANSITIVE))
-        },
-        root("a"),
+        "256 modules, 6,000 static RQ of the last but one, ST behind 10,900 RT",
+        optional("zz"),
+        [fill(Vec::new(), LIMIT - 4, |_| root("a")), with_static()].concat(),
+    );
+    t.resolve(
+        "256 modules, 6,000 static RQ of the last but one, 10,900 RT, no ST",
+        optional("zz"),
+        fill(Vec::new(), LIMIT, |_| root("a")),
     );
     t.resolve(
         "128 modules of 240 bytes with a common prefix, 125 RQ of the last",
@@ -230,12 +238,12 @@ fn resolutions(t: &mut Table) {
         root("a"),
     );
     t.resolve(
-        "254 modules with one hash, 3,000 static RQ of absent names with it",
+        "254 modules with one hash, 3,000 static RQ of absent names with it, ST",
         {
             let set = modules((1..255).map(alike));
             fill([set, module("a")].concat(), LIMIT, |i| requires(&alike(1_000 + i), STATIC))
         },
-        root("a"),
+        [root("a"), with_static()].concat(),
     );
     t.resolve(
         "256 modules, 6,500 AR between the last two",
