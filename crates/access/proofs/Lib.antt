@@ -8,3 +8,4 @@ pub mod Agree
 pub mod Cases
 pub mod PlaceCases
 pub mod RuleCases
+pub mod StaticCases

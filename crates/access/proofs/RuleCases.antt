@@ -25,7 +25,7 @@ use Rattle.access.proofs.Cases.{ask}
 use Rattle.access.proofs.PlaceCases.{place-cases}
 
 -- one line opens all: resolution and questions, the forms, the sets, the particulars of refusals, places, and the jar reader
-compute : List ℕ → List ℕ → Name → Name → Name → AccessAnswer
+unfoldable pub compute : List ℕ → List ℕ → Name → Name → Name → AccessAnswer
 unfolding ask MO MO-open MO-automatic RQ RQ-transitive RQ-static EX OP US PV PK MC PL RT LM ST AR AE AO q s t base beside requiring chain chainBroken services sharing PL7 jarName jarModule jarRecords canRead readsAt readersOf absentName bodyStart startIn recordsAt absentOf splitOf errorOf nthIn begins firstIn blockAt enterAt placesAt upToPlace behindPlaces placesOf places foundFrom visibleBlocks inputNumber numberOf particularsOf packageKind beforeBytes isDigit isLetter isAlphanumeric isStart hasByte afterLast fileName withoutJar startsVersion hasVersion withoutVersion dottedFrom dotted trimFront trimEnd trimmed derivedName isRest isPart inFront partsOf allParts isModuleName validated derived insertName orderedFrom ordered packagesOf written twoBytes recordBytes nameBytes moduleRecord baseRecord group automaticRecords nameFor namedFor recordsFor fitted thenName thenPackages jarAnswer outputAfter
 compute set rq asker target pkg = access set rq asker target pkg
 
@@ -195,61 +195,6 @@ rule-cases = record {
   jar-offset = record { answer = refl; output = refl };
   jar-nothing-left = record { answer = refl; output = refl };
   jar-bad-name = record { answer = refl; output = refl };
-  static-default = refl;
-  static-with = refl;
-  static-in-front = refl;
-  static-transitive = refl;
-  static-transitive-with = refl;
-  static-permitted = refl;
-  static-permitted-with = refl;
-  static-of-required = refl;
-  static-of-required-with = refl;
-  static-second = refl;
-  static-second-with = refl;
-  static-of-base = refl;
-  static-of-automatic = refl;
-  round-static = refl;
-  round-static-with = refl;
-  static-in-order = refl;
-  static-absent = refl;
-  static-absent-with = refl;
-  static-not-permitted = refl;
-  round-static-absent = refl;
-  round-static-absent-with = refl;
-  static-and-not-static = refl;
-  not-static-and-static = refl;
-  static-then-needed = refl;
-  static-then-needed-with = refl;
-  round-static-then-needed = refl;
-  round-static-then-needed-with = refl;
-  static-provider = refl;
-  round-static-provider = refl;
-  round-static-not-met = refl;
-  round-static-not-met-with = refl;
-  reads-static = refl;
-  reads-static-with = refl;
-  reads-static-unresolved = refl;
-  reads-static-implied = refl;
-  reads-static-implied-with = refl;
-  reads-static-not-implied = refl;
-  reads-static-not-implied-with = refl;
-  static-split = refl;
-  static-split-with = refl;
-  gained = record { modules = λ x m. m; roots = λ n m. m; permitted = λ n e. e; addReads = λ x m. m; addExports = λ x m. m; addOpens = λ x m. m; static = λ e. refl };
-  dropped-from = refl;
-  dropped-to = refl;
-  dropped-first = refl;
-  dropped-second = refl;
-  dropped-member = refl;
-  dropped-lost = refl;
-  static-once = refl;
-  static-twice = refl;
-  static-twice-apart = refl;
-  static-twice-later = refl;
-  limit-twice-apart = refl;
-  static-filled = refl;
-  static-named = refl;
-  static-in-set = refl;
   again = refl;
   twice = refl;
   eight = refl;

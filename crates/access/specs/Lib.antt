@@ -1,5 +1,5 @@
--- The definitions: verdicts and the graph of reads over any configuration, demand 3, the ten cases, those of places and those of the
--- other rules.
+-- The definitions: verdicts and the graph of reads over any configuration, demand 3, the ten cases, those of places, those of the
+-- other rules and those of static requirements.
 pub mod Access
 pub mod CanRead
 pub mod ReadGraph
@@ -10,6 +10,7 @@ pub mod Cases
 pub mod PlaceCases
 pub mod Form
 pub mod RuleCases
+pub mod StaticCases
 -- The forms that the code follows.
 pub mod Members
 pub mod GraphSteps

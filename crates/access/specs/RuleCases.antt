@@ -1,13 +1,12 @@
--- Cases of the rules that document 01's ten (`Cases`) do not pin, of the definitions over bytes, and those of U2 and U6. Where a row
--- tells positions, java.base has 0, and a, b and c have 1, 2 and 3; the lowest bit of a word is java.base's.
+-- Cases of the rules that document 01's ten (`Cases`) do not pin, of the definitions over bytes, and those of U2. `StaticCases` has
+-- those of static requirements (U6). Where a row tells positions, java.base has 0, and a, b and c have 1, 2 and 3; the lowest bit of a
+-- word is java.base's.
 use Prim.Native.Nat.{ℕ}
 use mathlib.Core.Path.{_≡_}
 use mathlib.Core.Bool.{Bool, true, false}
-use mathlib.Core.Option.{none}
 use mathlib.Core.List.{List, [], _∷_, _++_, map}
 use lib.ListN.{replicate}
 use Rattle.records.specs.Name.{javaBase, allUnnamed}
-use Rattle.records.specs.Request.{requestOf}
 use Rattle.records.specs.Set.{checkSet, accepted, refused}
 use Rattle.records.specs.Places.{places}
 use Rattle.records.specs.Finder.{visibleBlocks}
@@ -26,11 +25,11 @@ use Rattle.resolution.specs.Cases.{a, b, c}
 use Rattle.resolution.specs.declared.configuration.Configuration.{Configuration}
 use Rattle.resolution.specs.declared.resolve.Outcome.{Outcome}
 use Rattle.resolution.specs.declared.resolve.Outcome.the-variants.{Accepted, Refused}
-use Rattle.access.specs.Access.{isMember, readsName, checkAccess}
+use Rattle.access.specs.Access.{readsName, checkAccess}
 use Rattle.access.specs.CanRead.{canRead}
 use Rattle.access.specs.Cases.{p}
-use Rattle.access.specs.Demand3.{configuration, Grows}
-use Rattle.access.specs.Form.{marked, named, moduleWith, requiresWith, MO, MO-open, MO-automatic, RQ, RQ-transitive, RQ-static, EX, OP, US, PV, PK, MC, PL, RT, LM, ST, AR, AE, AO}
+use Rattle.access.specs.Demand3.{configuration}
+use Rattle.access.specs.Form.{marked, named, moduleWith, requiresWith, MO, MO-open, MO-automatic, RQ, RQ-transitive, RQ-static, EX, OP, US, PV, PK, MC, PL, RT, LM, AR, AE, AO}
 use Rattle.access.specs.PlaceCases.{q, PlaceCases}
 use Rattle.access.specs.ReadGraph.{readsAt, Leads, readersOf}
 use Rattle.access.specs.declared.access.AccessAnswer.{AccessAnswer}
@@ -263,7 +262,7 @@ pub record RuleCases : Type 0 where
   pub other-flags-open : reflection (requiring (moduleWith 0xFF 0 b ++ PK p)) (RT a) a b p ≡ Verdict Allowed
   pub other-flags-required : outcome (beside (requiresWith 0xFF 0x9F b)) (RT a) ≡ Refused (ModuleNotFound Set 35 1)
   pub other-flags-static : outcome (beside (requiresWith 0xFF 0xFF b)) (RT a) ≡ Accepted
-  pub other-flags-implied : reads (requiring (MO b ++ requiresWith 0xFF 0xDF c ++ MO c)) (RT a) a c ≡ false
+  pub other-flags-implied : reads (requiring (MO b ++ requiresWith 0xFF 0xDF c ++ MO c)) (RT a ++ RT c) a c ≡ false
   -- an automatic target decides by its PK, for access and for reflection; an override helps a named asker
   pub automatic-package : access (requiring (MO-automatic b ++ PK p ++ EX q [])) (RT a) a b p ≡ Verdict Allowed
   pub automatic-reflection : reflection (requiring (MO-automatic b ++ PK p ++ EX q [])) (RT a) a b p ≡ Verdict Allowed
@@ -353,76 +352,6 @@ pub record RuleCases : Type 0 where
   pub jar-offset : JarRead onlyJar false [] (PK q ++ MO a) (9 ∷ []) (9 ∷ []) (Jar.Refused (Malformed Packages 6))
   pub jar-nothing-left : JarRead onlyJar false [] [] (9 ∷ []) (9 ∷ []) (Jar.Refused InvalidAutomaticModuleName)
   pub jar-bad-name : JarRead jarName true (49 ∷ []) [] (9 ∷ []) (9 ∷ []) (Jar.Refused InvalidModuleName)
-  -- ---- static requirements (U6)
-  -- "By default such a requirement now brings nothing in": not its module, nor what that requires; with ST it does
-  pub static-default : members (beside (RQ-static b ++ MO b ++ RQ c ++ MO c)) (RT a) ≡ word 0b0011
-  pub static-with : members (beside (RQ-static b ++ MO b ++ RQ c ++ MO c)) (RT a ++ ST) ≡ word 0b1111
-  pub static-in-front : members (beside (RQ-static b ++ MO b ++ RQ c ++ MO c)) (ST ++ RT a) ≡ word 0b1111
-  -- .. a static transitive one neither, with an LM or without, also of what a root requires, behind another requirement, of java.base and
-  -- of an automatic module
-  pub static-transitive : members (beside (requiresWith 0 0x60 b ++ MO b)) (RT a) ≡ word 0b011
-  pub static-transitive-with : members (beside (requiresWith 0 0x60 b ++ MO b)) (RT a ++ ST) ≡ word 0b111
-  pub static-permitted : members (beside (RQ-static b ++ MO b)) (RT a ++ LM (a ∷ b ∷ [])) ≡ word 0b011
-  pub static-permitted-with : members (beside (RQ-static b ++ MO b)) (RT a ++ ST ++ LM (a ∷ b ∷ [])) ≡ word 0b111
-  pub static-of-required : members (requiring (MO b ++ RQ-static c ++ MO c)) (RT a) ≡ word 0b0111
-  pub static-of-required-with : members (requiring (MO b ++ RQ-static c ++ MO c)) (RT a ++ ST) ≡ word 0b1111
-  pub static-second : members (requiring (RQ-static c ++ MO b ++ MO c)) (RT a) ≡ word 0b0111
-  pub static-second-with : members (requiring (RQ-static c ++ MO b ++ MO c)) (RT a ++ ST) ≡ word 0b1111
-  pub static-of-base : members (base ++ RQ-static a ++ MO a) [] ≡ word 0b01
-  pub static-of-automatic : members (base ++ MO-automatic a ++ RQ-static b ++ MO b) (RT a) ≡ word 0b011
-  -- .. in a round neither
-  pub round-static : members (beside (US s ++ MO b ++ PV s ++ RQ-static c ++ MO c)) (RT a) ≡ word 0b0111
-  pub round-static-with : members (beside (US s ++ MO b ++ PV s ++ RQ-static c ++ MO c)) (RT a ++ ST) ≡ word 0b1111
-  -- with ST it is queued at its place among the others: b is resolved before c
-  pub static-in-order : outcome (beside (RQ-static b ++ RQ c ++ MO b ++ PK p ++ MO c ++ PK p)) (RT a ++ ST) ≡ Refused (SplitPackage 77 1 2 3)
-  -- with ST "a static one only if observable", and permitted; an absent one passes, also in a round
-  pub static-absent : outcome (beside (RQ-static b)) (RT a) ≡ Accepted
-  pub static-absent-with : outcome (beside (RQ-static b)) (RT a ++ ST) ≡ Accepted
-  pub static-not-permitted : members (beside (RQ-static b ++ MO b)) (RT a ++ LM (a ∷ []) ++ ST) ≡ word 0b011
-  pub round-static-absent : members (beside (US s ++ MO b ++ PV s ++ RQ-static c)) (RT a ++ LM (a ∷ b ∷ [])) ≡ word 0b111
-  pub round-static-absent-with : members (beside (US s ++ MO b ++ PV s ++ RQ-static c)) (RT a ++ LM (a ∷ b ∷ []) ++ ST) ≡ word 0b111
-  -- a name of a static and a non-static requirement comes in by the latter, and refuses by it where it is absent
-  pub static-and-not-static : members (beside (RQ-static b ++ RQ b ++ MO b)) (RT a) ≡ word 0b111
-  pub not-static-and-static : members (beside (RQ b ++ RQ-static b ++ MO b)) (RT a) ≡ word 0b111
-  pub static-then-needed : outcome (beside (RQ-static b ++ RQ b)) (RT a) ≡ Refused (ModuleNotFound Set 44 1)
-  pub static-then-needed-with : outcome (beside (RQ-static b ++ RQ b)) (RT a ++ ST) ≡ Refused (ModuleNotFound Set 44 1)
-  pub round-static-then-needed : outcome (beside (US s ++ MO b ++ PV s ++ RQ-static c ++ RQ c)) (RT a) ≡ Refused (ModuleNotFound Set 68 1)
-  pub round-static-then-needed-with : outcome (beside (US s ++ MO b ++ PV s ++ RQ-static c ++ RQ c)) (RT a ++ ST) ≡ Refused (ModuleNotFound Set 68 1)
-  -- it is not met: a provider of that name is bound, in the first round and in a later one
-  pub static-provider : members (beside (RQ-static b ++ US s ++ MO b ++ PV s)) (RT a) ≡ word 0b111
-  pub round-static-provider : members (beside (US s ++ MO b ++ PV s ++ RQ-static c ++ US t ++ MO c ++ PV t)) (RT a) ≡ word 0b1111
-  -- nor does it let an absent name pass in a round
-  pub round-static-not-met : outcome (beside (US s ++ RQ-static c ++ MO b ++ PV s ++ RQ c)) (RT a ++ LM (a ∷ b ∷ [])) ≡ Refused (ModuleNotFound Set 68 1)
-  pub round-static-not-met-with : outcome (beside (US s ++ RQ-static c ++ MO b ++ PV s ++ RQ c)) (RT a ++ LM (a ∷ b ∷ []) ++ ST) ≡ Refused (ModuleNotFound Set 68 1)
-  -- "the edge exists if both modules are resolved by other means"; a static transitive one passes on, and no other static one
-  pub reads-static : reads (beside (RQ-static b ++ MO b)) (RT a ++ RT b) a b ≡ true
-  pub reads-static-with : reads (beside (RQ-static b ++ MO b)) (RT a ++ ST) a b ≡ true
-  pub reads-static-unresolved : reads (beside (RQ-static b ++ MO b)) (RT a) a b ≡ false
-  pub reads-static-implied : reads (requiring (MO b ++ requiresWith 0 0x60 c ++ MO c)) (RT a ++ RT c) a c ≡ true
-  pub reads-static-implied-with : reads (requiring (MO b ++ requiresWith 0 0x60 c ++ MO c)) (RT a ++ ST) a c ≡ true
-  pub reads-static-not-implied : reads (requiring (MO b ++ RQ-static c ++ MO c)) (RT a ++ RT c) a c ≡ false
-  pub reads-static-not-implied-with : reads (requiring (MO b ++ RQ-static c ++ MO c)) (RT a ++ ST) a c ≡ false
-  -- 7 is of the modules resolved
-  pub static-split : outcome (beside (RQ-static b ++ PK p ++ MO b ++ PK p)) (RT a) ≡ Accepted
-  pub static-split-with : outcome (beside (RQ-static b ++ PK p ++ MO b ++ PK p)) (RT a ++ ST) ≡ Refused (SplitPackage 58 1 1 2)
-  -- "A grown request may gain ST but not drop it"
-  pub gained : Grows (beside (RQ-static b ++ MO b)) (RT a) (beside (RQ-static b ++ MO b)) (RT a ++ ST)
-  -- .. b, resolved in the first, is lost without ST, all else the same
-  pub dropped-from : requestOf (RT a ++ ST) ≡ record { roots = a ∷ []; limit = none; addReads = []; addExports = []; addOpens = []; hasStatic = true }
-  pub dropped-to : requestOf (RT a) ≡ record { roots = a ∷ []; limit = none; addReads = []; addExports = []; addOpens = []; hasStatic = false }
-  pub dropped-first : outcome (beside (RQ-static b ++ MO b)) (RT a ++ ST) ≡ Accepted
-  pub dropped-second : outcome (beside (RQ-static b ++ MO b)) (RT a) ≡ Accepted
-  pub dropped-member : isMember (beside (RQ-static b ++ MO b)) (configuration (beside (RQ-static b ++ MO b)) (RT a ++ ST)) b ≡ true
-  pub dropped-lost : isMember (beside (RQ-static b ++ MO b)) (configuration (beside (RQ-static b ++ MO b)) (RT a)) b ≡ false
-  -- "with empty body .. at most once", in the request alone; LM and ST do not count for each other
-  pub static-once : outcome base (LM [] ++ ST) ≡ Accepted
-  pub static-twice : outcome base (ST ++ ST) ≡ Refused (Malformed Request 4)
-  pub static-twice-apart : outcome base (ST ++ LM [] ++ ST) ≡ Refused (Malformed Request 10)
-  pub static-twice-later : outcome base (ST ++ RT javaBase ++ ST) ≡ Refused (Malformed Request 18)
-  pub limit-twice-apart : outcome base (LM [] ++ ST ++ LM []) ≡ Refused (Malformed Request 10)
-  pub static-filled : outcome base (marked 83 84 (0 ∷ [])) ≡ Refused (Malformed Request 0)
-  pub static-named : outcome base (marked 83 84 (named a)) ≡ Refused (Malformed Request 0)
-  pub static-in-set : outcome (base ++ ST) [] ≡ Refused (Malformed Set 18)
   -- ---- places (U2)
   -- a name may stand again in another place, and not in the same
   pub again : checkSet (MO a ++ PL ++ MO b ++ PL ++ MO a) ≡ accepted (0 ∷ 14 ∷ 28 ∷ []) 38
