@@ -115,7 +115,7 @@ impl Inputs {
         }
     }
 
-    /// A resolution of the library or of second.rs as the original's.
+    /// A resolution of second.rs as the original's.
     pub fn as_original(
         &self,
         set: &[u8],

@@ -86,6 +86,16 @@ fn queue() -> Vec<[System; 2]> {
             &[root("a")],
         ),
         both(
+            "a static requirement in front of one with a shared package",
+            &[base(), module("a"), requires("b", STATIC), requires("c", 0), module("b"), package("k"), module("c"), package("k")],
+            &[root("a")],
+        ),
+        both(
+            "a static requirement behind one with a shared package",
+            &[base(), module("a"), requires("c", 0), requires("b", STATIC), module("b"), package("k"), module("c"), package("k")],
+            &[root("a")],
+        ),
+        both(
             "a static requirement of an automatic module",
             &[base(), module_with("a", 0, true, ""), requires("x", STATIC), module("x")],
             &[root("a")],
@@ -189,6 +199,21 @@ fn rounds() -> Vec<[System; 2]> {
             "in a round a static requirement in front of a non-static one",
             &[bound(&[], &[requires("q", STATIC), requires("q", 0), module("q")])],
             &[root("a")],
+        ),
+        both(
+            "in a round a static requirement in front of one with a shared package",
+            &[bound(&[], &[requires("q", STATIC), requires("r", 0), module("q"), package("k"), module("r"), package("k")])],
+            &[root("a")],
+        ),
+        both(
+            "in a round a static requirement behind one with a shared package",
+            &[bound(&[], &[requires("r", 0), requires("q", STATIC), module("q"), package("k"), module("r"), package("k")])],
+            &[root("a")],
+        ),
+        both(
+            "in a round a static requirement that requires an absent module",
+            &[bound(&[], &[requires("q", STATIC), module("q"), requires("y", 0)])],
+            &[root("a"), limit(&["a", "p", "q"])],
         ),
         both(
             "in a round a static transitive requirement of a member passes on",
