@@ -57,19 +57,20 @@ fn listed_is_not_started() {
     assert_eq!(find_module_for_package(&set(), &c, b"page/foot"), Ok(None));
 }
 
-/// page.proof is needed by a static requirement alone, and page.frames by another one too.
+/// page.proof and page.frames are needed by static requirements alone; that of page.frames passes on.
 #[test]
 fn static_requirements() {
     let core = [module("page.core"), requires("page.proof", STATIC), requires("page.frames", STATIC | TRANSITIVE)].concat();
-    let foot = [module("page.foot"), requires("page.core", 0), requires("page.frames", 0)].concat();
+    let foot = [module("page.foot"), requires("page.core", 0)].concat();
     let set = [module("java.base"), core, foot, module("page.frames"), module("page.proof")].concat();
     let of = |request: &[Vec<u8>]| {
         let c = resolve(&set, &request.concat()).unwrap().configuration;
-        (c.members().collect::<Vec<_>>(), [c.reads(1, 3), c.reads(2, 3), c.reads(1, 4)])
+        (c.members().collect::<Vec<_>>(), [c.reads(1, 3), c.reads(2, 3), c.reads(1, 4), c.reads(2, 4)])
     };
-    assert_eq!(of(&[root("page.core")]), (vec![0, 1], [false; 3]));
-    assert_eq!(of(&[root("page.foot")]), (vec![0, 1, 2, 3], [true, true, false]));
-    let whole = (vec![0, 1, 2, 3, 4], [true; 3]);
+    assert_eq!(of(&[root("page.core")]), (vec![0, 1], [false; 4]));
+    assert_eq!(of(&[root("page.foot")]), (vec![0, 1, 2], [false; 4]));
+    assert_eq!(of(&[root("page.foot"), root("page.frames")]), (vec![0, 1, 2, 3], [true, true, false, false]));
+    let whole = (vec![0, 1, 2, 3, 4], [true, true, true, false]);
     assert_eq!(of(&[with_static(), root("page.foot")]), whole);
     assert_eq!(of(&[root("page.foot"), with_static()]), whole);
 }
