@@ -8,7 +8,7 @@ use compare::module::reference::ModuleReference;
 use compare::original::Inputs;
 use compare::records::{parse_both, write_descriptor};
 use compare::{class, original};
-use saqhovune::{Configuration, WORDS, form};
+use saqhovune::{AccessKind, Configuration, WORDS, form};
 use std::collections::{BTreeSet, HashMap};
 use std::hint::black_box;
 use std::path::Path;
@@ -94,12 +94,13 @@ impl Table {
         let c: Configuration = saqhovune::resolve(&s.set, &s.request).expect("it resolves").configuration;
         let all = inputs::questions(&s.set, 10_000);
         for [a, t, p] in &all[..1000] {
-            let v = saqhovune::check_access(&s.set, &s.request, &c, a.as_bytes(), t.as_bytes(), p.as_bytes());
+            let v = saqhovune::check_access(&s.set, &s.request, &c, AccessKind::Access, a.as_bytes(), t.as_bytes(), p.as_bytes());
             assert_eq!(format!("{:?}", v.unwrap()), format!("{:?}", access.check_access(a, t, p)), "{a} {t} {p}");
         }
         let ours = |q: &[[String; 3]]| {
             for [a, t, p] in q {
-                let v = saqhovune::check_access(&s.set, &s.request, &c, a.as_bytes(), t.as_bytes(), p.as_bytes());
+                let v =
+                    saqhovune::check_access(&s.set, &s.request, &c, AccessKind::Access, a.as_bytes(), t.as_bytes(), p.as_bytes());
                 black_box(v).unwrap();
             }
         };

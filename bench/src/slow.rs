@@ -4,7 +4,7 @@ use crate::inputs::LIMIT;
 use crate::slow_class;
 use crate::time::{self, times};
 use saqhovune::form::*;
-use saqhovune::{Configuration, Refusal, Row, Verdict, WORDS};
+use saqhovune::{AccessKind, Configuration, Refusal, Row, Verdict, WORDS};
 use std::hint::black_box;
 
 /// No input should take longer (in nanoseconds).
@@ -79,10 +79,11 @@ impl Table {
         let bytes = size(&set, &request);
         let [a, t, p] = [a, t, p].map(str::as_bytes);
         let verdict = |v: Result<Verdict, Refusal>| format!("{:?}", v.expect("it is well-formed"));
-        self.row("access", input, bytes, verdict, || saqhovune::check_access(black_box(&set), black_box(&request), &c, a, t, p));
-        self.row("reflection", input, bytes, verdict, || {
-            saqhovune::check_reflection_access(black_box(&set), black_box(&request), &c, a, t, p)
-        });
+        for (function, kind) in [("access", AccessKind::Access), ("reflection", AccessKind::Reflection)] {
+            self.row(function, input, bytes, verdict, || {
+                saqhovune::check_access(black_box(&set), black_box(&request), &c, kind, a, t, p)
+            });
+        }
     }
 
     fn graph(&mut self, input: &str, set: &[u8], c: &Configuration, [from, to]: [&str; 2]) {

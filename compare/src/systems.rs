@@ -9,7 +9,7 @@ use crate::records::{parse_both, text};
 use crate::report::Report;
 use crate::second;
 use saqhovune::form::{self, Record, module, place, record, records, with_static};
-use saqhovune::{Configuration, Input, Refusal, Row, WORDS};
+use saqhovune::{AccessKind, Configuration, Input, Refusal, Row, WORDS};
 use std::collections::BTreeSet;
 
 const PATTERN: u64 = 0x5A5A_A5A5_5A5A_A5A5;
@@ -244,8 +244,10 @@ fn refused(report: &mut Report, seed: u64, of: &dyn std::fmt::Debug, set: &[u8],
     report.compare("checks of damaged inputs (by a second reading)", seed, of, saqhovune::check(set, request), expected);
     if let Err(e) = expected {
         report.compare("resolutions of damaged inputs", seed, of, saqhovune::resolve(set, request), Err(e));
-        let verdict = saqhovune::check_access(set, request, &Configuration::from_words([0; WORDS]), b"a", b"a", b"");
-        report.compare("questions of damaged inputs", seed, of, verdict, Err(e));
+        for kind in [AccessKind::Access, AccessKind::Reflection] {
+            let verdict = saqhovune::check_access(set, request, &Configuration::from_words([0; WORDS]), kind, b"a", b"a", b"");
+            report.compare("questions of damaged inputs", seed, of, verdict, Err(e));
+        }
     }
     if records(request).any(|r| r.mark == b"ST") || records(set).any(|r| r.mark == b"ST") {
         report.count(match expected {
@@ -373,14 +375,14 @@ fn ask(
     which: &str,
 ) {
     let resolved = which == "resolved";
-    let kind = |a: &'static str, b: &'static str| if resolved { a } else { b };
+    let over = |a: &'static str, b: &'static str| if resolved { a } else { b };
     let access = AccessCheck::new(original);
     let graph = ModuleGraph::from_configuration(original);
     for _ in 0..questions {
         let q = generate::question(r, s);
         let [a, t, p] = q.each_ref().map(|b| text(b));
         let of = (which, &a, &t, &p);
-        let verdict = saqhovune::check_access(&s.set, &s.request, c, &q[0], &q[1], &q[2]);
+        let verdict = saqhovune::check_access(&s.set, &s.request, c, AccessKind::Access, &q[0], &q[1], &q[2]);
         let verdict = format!("{:?}", verdict.expect("the inputs are well-formed"));
         let expected = format!("{:?}", access.check_access(&a, &t, &p));
         report.count(match expected.as_str() {
@@ -388,25 +390,25 @@ fn ask(
             "NotReadable" => "verdicts NotReadable",
             _ => "verdicts NotExported",
         });
-        report.compare(kind("verdicts, resolved", "verdicts, arbitrary"), seed, &of, verdict, expected);
-        let verdict = saqhovune::check_reflection_access(&s.set, &s.request, c, &q[0], &q[1], &q[2]);
+        report.compare(over("verdicts, resolved", "verdicts, arbitrary"), seed, &of, verdict, expected);
+        let verdict = saqhovune::check_access(&s.set, &s.request, c, AccessKind::Reflection, &q[0], &q[1], &q[2]);
         let verdict = format!("{:?}", verdict.expect("the inputs are well-formed"));
         let expected = format!("{:?}", access.check_reflection_access(&a, &t, &p));
-        report.compare(kind("reflection verdicts, resolved", "reflection verdicts, arbitrary"), seed, &of, verdict, expected);
+        report.compare(over("reflection verdicts, resolved", "reflection verdicts, arbitrary"), seed, &of, verdict, expected);
         let reads = saqhovune::can_read(&s.set, c, &q[0], &q[1]);
-        report.compare(kind("can_read, resolved", "can_read, arbitrary"), seed, &of, reads, Ok(access.can_read(&a, &t)));
-        owner(report, seed, s, names, c, original, &q[2], kind("owners, resolved", "owners, arbitrary"));
+        report.compare(over("can_read, resolved", "can_read, arbitrary"), seed, &of, reads, Ok(access.can_read(&a, &t)));
+        owner(report, seed, s, names, c, original, &q[2], over("owners, resolved", "owners, arbitrary"));
     }
     for _ in 0..questions.div_ceil(4) {
         let name = generate::asked_name(r, s);
         let n = text(&name);
         let row = saqhovune::readers_of(&s.set, c, &name).expect("the set is well-formed");
         let expected = graph.readers_of(&n).cloned().unwrap_or_default();
-        report.compare(kind("readers_of, resolved", "readers_of, arbitrary"), seed, &n, row_names(names, &row), expected);
+        report.compare(over("readers_of, resolved", "readers_of, arbitrary"), seed, &n, row_names(names, &row), expected);
         let row = saqhovune::transitive_reads(&s.set, c, &name).expect("the set is well-formed");
         let expected = graph.transitive_reads(&n);
         report.compare(
-            kind("transitive_reads, resolved", "transitive_reads, arbitrary"),
+            over("transitive_reads, resolved", "transitive_reads, arbitrary"),
             seed,
             &n,
             row_names(names, &row),

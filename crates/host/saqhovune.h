@@ -55,17 +55,12 @@ uint64_t saqhovune_check(const uint8_t *set, size_t set_len, const uint8_t *requ
 uint64_t saqhovune_resolve(const uint8_t *set, size_t set_len, const uint8_t *request, size_t request_len, uint64_t *words,
                            size_t words_len, uint64_t particulars[4]);
 
-/* Whether the asker may use the package of the target (4, 1 to 3). Answers 0 Allowed, 1 NotReadable or 2 NotExported. */
+/* Whether the asker may access the package of the target, or, where `reflection` is true, reflect on it (4, 1 to 3). Answers 0 Allowed,
+ * 1 NotReadable, 2 NotExported (access) or 3 NotOpened (reflection). */
 uint64_t saqhovune_check_access(const uint8_t *set, size_t set_len, const uint8_t *request, size_t request_len,
-                                const uint64_t *words, size_t words_len, const uint8_t *asker, size_t asker_len,
+                                const uint64_t *words, size_t words_len, bool reflection, const uint8_t *asker, size_t asker_len,
                                 const uint8_t *target, size_t target_len, const uint8_t *package, size_t package_len,
                                 uint64_t particulars[4]);
-
-/* The same for reflection. Answers 0 Allowed, 1 NotReadable or 3 NotOpened. */
-uint64_t saqhovune_check_reflection_access(const uint8_t *set, size_t set_len, const uint8_t *request, size_t request_len,
-                                           const uint64_t *words, size_t words_len, const uint8_t *asker, size_t asker_len,
-                                           const uint8_t *target, size_t target_len, const uint8_t *package,
-                                           size_t package_len, uint64_t particulars[4]);
 
 /* Whether a module can read another (4, 1 to 3 of the set). Answers 1 where the names are equal, known or not, where `to` is
  * java.base, or where a member has a read edge to the other; else 0. */

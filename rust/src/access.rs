@@ -28,47 +28,40 @@ impl Verdict {
     }
 }
 
-/// Whether the asker may use the package of the target (1 to 3).
+/// What is asked.
+#[derive(Clone, Copy, Debug, PartialEq, Eq)]
+pub enum AccessKind {
+    /// Whether the asker may access the package.
+    Access,
+    /// Whether it may reflect on it.
+    Reflection,
+}
+
+/// Whether the asker may access the package of the target, or reflect on it (1 to 3).
 pub fn check_access(
     set: &[u8],
     request: &[u8],
     configuration: &Configuration,
+    kind: AccessKind,
     asker: &[u8],
     target: &[u8],
     package: &[u8],
-) -> Result<Verdict, Refusal> {
-    ask(raw::saqhovune_check_access, set, request, configuration, [asker, target, package])
-}
-
-/// Whether the asker may use the package of the target by reflection (1 to 3).
-pub fn check_reflection_access(
-    set: &[u8],
-    request: &[u8],
-    configuration: &Configuration,
-    asker: &[u8],
-    target: &[u8],
-    package: &[u8],
-) -> Result<Verdict, Refusal> {
-    ask(raw::saqhovune_check_reflection_access, set, request, configuration, [asker, target, package])
-}
-
-fn ask(
-    function: raw::Question,
-    set: &[u8],
-    request: &[u8],
-    configuration: &Configuration,
-    [asker, target, package]: [&[u8]; 3],
 ) -> Result<Verdict, Refusal> {
     let words = configuration.words();
+    let reflection = match kind {
+        AccessKind::Access => false,
+        AccessKind::Reflection => true,
+    };
     // SAFETY: each pointer is that of a slice with the length beside it, and the particulars have four words.
     let answer = told(|particulars| unsafe {
-        function(
+        raw::saqhovune_check_access(
             set.as_ptr(),
             set.len(),
             request.as_ptr(),
             request.len(),
             words.as_ptr(),
             words.len(),
+            reflection,
             asker.as_ptr(),
             asker.len(),
             target.as_ptr(),

@@ -10,6 +10,7 @@
 //!
 //! ```
 //! use saqhovune::form::{exports, module, module_names, package, requires, root};
+//! use saqhovune::{AccessKind, Verdict};
 //! let base = module("java.base"); // or from_class_file_vec(&module_info)?, or automatic_from_jar_name_vec(..)?
 //! let foot = [module("page.foot"), requires("page.frames", 0)].concat();
 //! let frames = [module("page.frames"), package("page/frame"), exports("page/frame", &[])].concat();
@@ -18,8 +19,9 @@
 //! for (position, name) in module_names(&set).enumerate().filter(|(i, _)| resolved.configuration.contains(*i)) {
 //!     println!("{position} {} starts", String::from_utf8_lossy(name));
 //! }
-//! let may = saqhovune::check_access(&set, &request, &resolved.configuration, b"page.foot", b"page.frames", b"page/frame");
-//! assert_eq!((resolved.count, may), (3, Ok(saqhovune::Verdict::Allowed)));
+//! let c = &resolved.configuration;
+//! let may = saqhovune::check_access(&set, &request, c, AccessKind::Access, b"page.foot", b"page.frames", b"page/frame");
+//! assert_eq!((resolved.count, may), (3, Ok(Verdict::Allowed)));
 //! ```
 //!
 //! A set may have up to eight places, as folders that hide one another: [`form::place`] starts one, and of modules of one name
@@ -47,7 +49,7 @@ mod reader;
 mod refusal;
 mod resolve;
 
-pub use access::{can_read, check_access, check_reflection_access, find_module_for_package, Verdict};
+pub use access::{can_read, check_access, find_module_for_package, AccessKind, Verdict};
 pub use configuration::{Configuration, Row, WORDS};
 pub use graph::{readers_of, transitive_reads};
 pub use message::hidden_messages;

@@ -1,23 +1,6 @@
 //! The C functions of libhost.a, as its header saqhovune.h declares them. A slice is a pointer and a length; an empty Rust
 //! slice has a pointer that is not null and is aligned, and a bool is 0 or 1, as they ask.
 
-/// A question of access.
-pub type Question = unsafe extern "C" fn(
-    set: *const u8,
-    set_len: usize,
-    request: *const u8,
-    request_len: usize,
-    words: *const u64,
-    words_len: usize,
-    asker: *const u8,
-    asker_len: usize,
-    target: *const u8,
-    target_len: usize,
-    package: *const u8,
-    package_len: usize,
-    particulars: *mut u64,
-) -> u64;
-
 /// A question of the graph.
 pub type Graph = unsafe extern "C" fn(
     set: *const u8,
@@ -50,22 +33,7 @@ extern "C" {
         request_len: usize,
         words: *const u64,
         words_len: usize,
-        asker: *const u8,
-        asker_len: usize,
-        target: *const u8,
-        target_len: usize,
-        package: *const u8,
-        package_len: usize,
-        particulars: *mut u64,
-    ) -> u64;
-
-    pub fn saqhovune_check_reflection_access(
-        set: *const u8,
-        set_len: usize,
-        request: *const u8,
-        request_len: usize,
-        words: *const u64,
-        words_len: usize,
+        reflection: bool,
         asker: *const u8,
         asker_len: usize,
         target: *const u8,

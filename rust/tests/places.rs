@@ -58,7 +58,7 @@ fn owner(c: &Configuration, package: &str) -> Option<usize> {
 
 fn verdicts(c: &Configuration, asker: &str, target: &str, package: &str) -> (Verdict, Verdict) {
     let (set, [a, t, p]) = (set(), [asker, target, package].map(str::as_bytes));
-    (check_access(&set, &[], c, a, t, p).unwrap(), check_reflection_access(&set, &[], c, a, t, p).unwrap())
+    [AccessKind::Access, AccessKind::Reflection].map(|kind| check_access(&set, &[], c, kind, a, t, p).unwrap()).into()
 }
 
 #[test]

@@ -19,8 +19,9 @@ fn is(set: &[u8], request: &[u8], refusal: Refusal, number: u8, message: &str) {
     if number <= 3 {
         let c = Configuration::from_words([0; WORDS]);
         assert_eq!(check(set, request), Err(refusal));
-        assert_eq!(check_access(set, request, &c, b"a", b"a", b"p"), Err(refusal));
-        assert_eq!(check_reflection_access(set, request, &c, b"a", b"a", b"p"), Err(refusal));
+        for kind in [AccessKind::Access, AccessKind::Reflection] {
+            assert_eq!(check_access(set, request, &c, kind, b"a", b"a", b"p"), Err(refusal));
+        }
         if check(set, &[]) == Err(refusal) {
             assert_eq!(can_read(set, &c, b"a", b"a"), Err(refusal));
             assert_eq!(find_module_for_package(set, &c, b"p"), Err(refusal));

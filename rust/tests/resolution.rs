@@ -96,10 +96,12 @@ fn positions_past_the_last() {
 #[test]
 fn verdicts() {
     let (set, request, c) = (set(), root("page.core"), resolved());
-    let access = |a: &str, t: &str, p: &str| check_access(&set, &request, &c, a.as_bytes(), t.as_bytes(), p.as_bytes()).unwrap();
-    let reflection = |a: &str, t: &str, p: &str| {
-        check_reflection_access(&set, &request, &c, a.as_bytes(), t.as_bytes(), p.as_bytes()).unwrap()
+    let verdict = |kind: AccessKind, question: [&str; 3]| {
+        let [a, t, p] = question.map(str::as_bytes);
+        check_access(&set, &request, &c, kind, a, t, p).unwrap()
     };
+    let access = |a: &str, t: &str, p: &str| verdict(AccessKind::Access, [a, t, p]);
+    let reflection = |a: &str, t: &str, p: &str| verdict(AccessKind::Reflection, [a, t, p]);
     assert_eq!(access("page.foot", "page.frames", "page/frame"), Verdict::Allowed);
     assert_eq!(access("page.core", "page.frames", "page/frame"), Verdict::NotExported);
     assert_eq!(access("page.frames", "page.core", "page/core"), Verdict::NotReadable);
@@ -109,9 +111,15 @@ fn verdicts() {
     assert_eq!(reflection("page.frames", "page.core", "page/core"), Verdict::NotReadable);
     assert_eq!(reflection("page.frames", "page.frames", "page/frame"), Verdict::Allowed);
 
-    let more = [request.clone(), add_open("page.frames", "page/frame", "page.foot")].concat();
-    let verdict = check_reflection_access(&set, &more, &c, b"page.foot", b"page.frames", b"page/frame");
-    assert_eq!(verdict, Ok(Verdict::Allowed));
+    // an override for page.core of one kind, which grants nothing of the other
+    let with = |more: Vec<u8>| {
+        let request = [request.clone(), more].concat();
+        [AccessKind::Access, AccessKind::Reflection]
+            .map(|kind| check_access(&set, &request, &c, kind, b"page.core", b"page.frames", b"page/frame").unwrap())
+    };
+    assert_eq!(with(vec![]), [Verdict::NotExported, Verdict::NotOpened]);
+    assert_eq!(with(add_export("page.frames", "page/frame", "page.core")), [Verdict::Allowed, Verdict::NotOpened]);
+    assert_eq!(with(add_open("page.frames", "page/frame", "page.core")), [Verdict::NotExported, Verdict::Allowed]);
 }
 
 #[test]

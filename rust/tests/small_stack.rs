@@ -80,8 +80,8 @@ fn questions() {
         assert!(c.contains(BOUND) && c.reads(BOUND, LATE) && c.reads_unnamed(1));
 
         let may = |asker: &[u8], target: &[u8], package: &[u8]| {
-            let by_reflection = check_reflection_access(&set, &request, c, asker, target, package).unwrap();
-            (check_access(&set, &request, c, asker, target, package).unwrap(), by_reflection)
+            let verdict = |kind| check_access(&set, &request, c, kind, asker, target, package).unwrap();
+            (verdict(AccessKind::Access), verdict(AccessKind::Reflection))
         };
         assert_eq!(may(b"m1", b"java.base", b"java/lang"), (Verdict::Allowed, Verdict::NotOpened));
         assert_eq!(may(b"m0", b"java.base", b"java/util"), (Verdict::Allowed, Verdict::NotOpened));

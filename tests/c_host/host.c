@@ -184,14 +184,14 @@ static void questions(void) {
     same(words[SAQHOVUNE_WORDS - 4], BIT(FOOT));
     same(words[SAQHOVUNE_WORDS], MARK);
 
-#define ASK(function, asker, target, package) \
-    function(IN(set), IN(request), words, SAQHOVUNE_WORDS, NAME(asker), NAME(target), NAME(package), marked())
-    told(ASK(saqhovune_check_access, "page.core", "page.frames", "page/frame"), 0, 0, 0, 0, 0);
-    told(ASK(saqhovune_check_access, "page.frames", "page.core", "page/core"), 0, 1, 0, 0, 0);
-    told(ASK(saqhovune_check_access, "page.core", "page.frames", "page/other"), 0, 2, 0, 0, 0);
-    told(ASK(saqhovune_check_reflection_access, "page.core", "page.core", "page/core"), 0, 0, 0, 0, 0);
-    told(ASK(saqhovune_check_reflection_access, "page.frames", "page.core", "page/core"), 0, 1, 0, 0, 0);
-    told(ASK(saqhovune_check_reflection_access, "page.core", "page.frames", "page/frame"), 0, 3, 0, 0, 0);
+#define ASK(reflection, asker, target, package) \
+    saqhovune_check_access(IN(set), IN(request), words, SAQHOVUNE_WORDS, reflection, NAME(asker), NAME(target), NAME(package), marked())
+    told(ASK(false, "page.core", "page.frames", "page/frame"), 0, 0, 0, 0, 0);
+    told(ASK(false, "page.frames", "page.core", "page/core"), 0, 1, 0, 0, 0);
+    told(ASK(false, "page.core", "page.frames", "page/other"), 0, 2, 0, 0, 0);
+    told(ASK(true, "page.core", "page.core", "page/core"), 0, 0, 0, 0, 0);
+    told(ASK(true, "page.frames", "page.core", "page/core"), 0, 1, 0, 0, 0);
+    told(ASK(true, "page.core", "page.frames", "page/frame"), 0, 3, 0, 0, 0);
 
 #define OVER(function, ...) function(IN(set), words, SAQHOVUNE_WORDS, __VA_ARGS__, marked())
     told(OVER(saqhovune_can_read, NAME("page.foot"), NAME("page.frames")), 0, 1, 0, 0, 0);

@@ -25,7 +25,7 @@ use Rattle.resolution.specs.Row.{holds}
 use Rattle.resolution.specs.declared.configuration.Configuration.{Configuration}
 use Rattle.resolution.proofs.Words.{words-over}
 use Rattle.resolution.proofs.owner.Laws.{lowest-over}
-use Rattle.access.specs.Access.{passes, isMember, edgeTo, isReader, readsName, resolvedModule, verdict, answered, checkAccess}
+use Rattle.access.specs.Access.{passes, isMember, edgeTo, isReader, readsName, resolvedModule, isReflection, verdict, answered, checkAccess}
 use Rattle.access.specs.Agree.{Agree, SameVisibleBits, SameAnswers}
 use Rattle.access.specs.CanRead.{readAnswered, canRead}
 use Rattle.access.specs.Members.{verdictBy}
@@ -165,7 +165,7 @@ module _ (s : List ℕ) (c₁ c₂ : Configuration) (h : Agree s c₁ c₂) wher
 
 pub tests-decide : (s : List ℕ) (c₁ c₂ : Configuration) → Agree s c₁ c₂ → SameAnswers s c₁ c₂
 tests-decide s c₁ c₂ h = record {
-  verdicts = same-access s c₁ c₂ h;
+  verdicts = λ kind. same-access s c₁ c₂ h (isReflection kind);
   can-read = same-can-read s c₁ c₂ h;
   readers = same-readers s c₁ c₂ h;
   owners = same-owner s c₁ c₂ h;

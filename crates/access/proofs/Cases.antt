@@ -1,7 +1,7 @@
 -- The ten cases.
 use Prim.Native.Nat.{ℕ}
 use mathlib.Core.Path.{_≡_, refl}
-use mathlib.Core.Bool.{true, false}
+use mathlib.Core.Bool.{true}
 use mathlib.Core.List.{List}
 use Rattle.records.specs.Bytes.{sameBytes, u16At}
 use Rattle.records.specs.Name.{printable, nameOf, afterName, isField, isName, isEmpty, isNames, isList, isVersion, isNameVersion, isNameList, memName, namesOf, listOf}
@@ -22,9 +22,11 @@ use Rattle.resolution.specs.Graph.{edge}
 use Rattle.resolution.specs.Reads.{reads}
 use Rattle.resolution.specs.Cases.{a, b, c}
 use Rattle.resolution.proofs.ByteCases.{byte-case1, byte-case2, byte-case3, byte-case4, byte-case5, byte-case10}
-use Rattle.access.specs.Access.{passes, isMember, edgeTo, isReader, readsName, resolvedModule, entriesOf, grantsOf, denied, grants, granted, namedVerdict, unnamedGranted, unnamedVerdict, verdict, answered as answeredAccess, checkAccess}
+use Rattle.access.specs.Access.{passes, isMember, edgeTo, isReader, readsName, resolvedModule, isReflection, entriesOf, grantsOf, denied, grants, granted, namedVerdict, unnamedGranted, unnamedVerdict, verdict, answered as answeredAccess, checkAccess}
 use Rattle.access.specs.Demand3.{configuration}
 use Rattle.access.specs.Cases.{exportsSet, rootC, p, TenCases}
+use Rattle.access.specs.declared.access.AccessKind.{AccessKind}
+use Rattle.access.specs.declared.access.AccessKind.the-variants.{Access}
 use Rattle.access.specs.declared.access.AccessAnswer.{AccessAnswer}
 use Rattle.access.specs.declared.access.AccessAnswer.the-variants.{Verdict}
 use Rattle.access.specs.declared.access.AccessCheckResult.the-variants.{NotExported}
@@ -35,15 +37,15 @@ unfolding checkInputs thenRequest checkRecords checkRecordsFrom rowOn rowOf same
 compute s q = checkInputs s q .answer
 
 -- and one all that resolution and a question do
-unfoldable pub ask : List ℕ → List ℕ → Name → Name → Name → AccessAnswer
+unfoldable pub ask : AccessKind → List ℕ → List ℕ → Name → Name → Name → AccessAnswer
 unfolding compute bitsFrom wordsFrom words memberAt edgeAt unnamedAt configurationOf told answered resolve Resolution.resolve bit holds one edge reads hasMember hasEdge hasUnnamedEdge isVisible passes isMember edgeTo isReader readsName resolvedModule entriesOf grantsOf denied grants granted namedVerdict unnamedGranted unnamedVerdict verdict answeredAccess checkAccess
-ask s q asker target pkg = checkAccess false s q (configuration s q) asker target pkg
+ask kind s q asker target pkg = checkAccess (isReflection kind) s q (configuration s q) asker target pkg
 
 case9-reads : readsName exportsSet (configuration exportsSet rootC) c a ≡ true
 unfolding ask exportsSet rootC
 case9-reads = refl
 
-case9 : checkAccess false exportsSet rootC (configuration exportsSet rootC) c a p ≡ Verdict NotExported
+case9 : checkAccess (isReflection Access) exportsSet rootC (configuration exportsSet rootC) c a p ≡ Verdict NotExported
 unfolding ask exportsSet rootC
 case9 = refl
 

@@ -18,7 +18,7 @@ use Rattle.resolution.proofs.PackageOwner.{owner-resolved}
 use Rattle.resolution.proofs.Positions.{find-at, visible-found, index-visible}
 use Rattle.resolution.proofs.Sets.{unaltered-over}
 use Rattle.resolution.proofs.Wider as Wider
-use Rattle.access.specs.Access.{readsName, resolvedModule, grantsOf, verdict, checkAccess}
+use Rattle.access.specs.Access.{readsName, resolvedModule, isReflection, grantsOf, verdict, checkAccess}
 use Rattle.access.specs.Demand3.{configuration, Resolved, Owns, Grows, KeepsAll, Demand3}
 use Rattle.access.specs.declared.access.AccessAnswer.the-variants.{Verdict}
 use Rattle.access.specs.declared.access.AccessCheckResult.the-variants.{Allowed}
@@ -120,7 +120,7 @@ module _ (s₁ q₁ s₂ q₂ : List ℕ) (d₁ : Done s₁ q₁) (d₂ : Done s
     members = λ n h. member-in s₂ q₂ d₂ n (kept .members n (member-out s₁ q₁ d₁ n h));
     reads = reads-kept;
     owners = owners-kept;
-    allowed = allowed-kept;
+    allowed = λ kind. allowed-kept (isReflection kind);
   }
 
 pub demand3 : Demand3

@@ -1,4 +1,5 @@
--- A verdict that allows still allows where there is more to read, to grant and to find.
+-- A verdict that allows still allows where there is more to read, to grant and to find; and for each kind the verdicts are those of
+-- the former pair.
 use mathlib.Core.Path.{_≡_, refl, ap}
 use Prim.Native.Nat.{ℕ}
 use mathlib.Core.Bool.{Bool, true, false, _||_, cond}
@@ -14,6 +15,7 @@ use Rattle.resolution.specs.Lists.{Name}
 use Rattle.resolution.specs.declared.configuration.Configuration.{Configuration}
 use Rattle.resolution.proofs.Lists.{imp, or-imp, same-imp, use-imp}
 use Rattle.access.specs.Access.{readsName, resolvedModule, grantsOf, denied, pickResult, grants, granted, namedVerdict, unnamedGranted, unnamedVerdict, verdict, answered, checkAccess}
+use Rattle.access.specs.FormerPair.{FormerPair}
 use Rattle.access.specs.declared.access.AccessCheckResult.{AccessCheckResult}
 use Rattle.access.specs.declared.access.AccessCheckResult.the-variants.{Allowed, NotReadable}
 use Rattle.access.specs.declared.access.AccessAnswer.the-variants.{Verdict}
@@ -102,3 +104,8 @@ answer-is reflection s q n h c asker target p = ap (answered reflection s q c as
 
 pub verdict-out : (r : AccessCheckResult) → Verdict r ≡ Verdict Allowed → r ≡ Allowed
 verdict-out r e = cc
+
+-- ---- the kinds
+
+pub former-pair : (s q : List ℕ) (c : Configuration) (asker target p : Name) → FormerPair s q c asker target p
+former-pair s q c asker target p = record { access = refl; reflection = refl }

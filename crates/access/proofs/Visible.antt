@@ -23,7 +23,7 @@ use Rattle.resolution.specs.Resolve.{told, answered, resolve}
 use Rattle.resolution.specs.declared.configuration.Configuration.{Configuration}
 use Rattle.resolution.proofs.SameResolution.{visible-done, done-visible}
 use Rattle.resolution.proofs.Sets.{blocks-observable}
-use Rattle.access.specs.Access.{readsName, resolvedModule, namedVerdict, unnamedVerdict, verdict, checkAccess}
+use Rattle.access.specs.Access.{readsName, resolvedModule, isReflection, namedVerdict, unnamedVerdict, verdict, checkAccess}
 use Rattle.access.specs.Demand3.{IsAccepted, configuration, Grows}
 use Rattle.access.specs.Members.{verdictBy}
 use Rattle.access.specs.Visible.{SameByNames}
@@ -123,5 +123,5 @@ module _ (s q : List ℕ) (n : ℕ) (h : checkInputs s q .answer ≡ Set.Modules
     reads = λ a. same-reads (accepted-out s q a);
     owners = λ a. let d = accepted-out s q a in all-kept s q v q d (over d) grows .owners;
     owners-back = λ a. let d = accepted-out s q a in all-kept v q s q (over d) d grows-back .owners;
-    verdicts = λ a. same-verdict (accepted-out s q a);
+    verdicts = λ a kind. same-verdict (accepted-out s q a) (isReflection kind);
   }

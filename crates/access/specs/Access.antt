@@ -1,5 +1,5 @@
 -- Verdicts (document 01, "Access"), over any configuration value and any three byte strings. Everywhere below `reflection` says
--- which of the two questions is asked.
+-- which of the two questions is asked; `isReflection` says it of a kind (U8).
 use Prim.Native.Nat.{ℕ}
 use mathlib.Core.Bool.{Bool, true, false, _&&_, _||_, cond}
 use mathlib.Core.Option.{Option, none, some}
@@ -18,6 +18,8 @@ use Rattle.resolution.specs.Lists.{Name}
 use Rattle.resolution.specs.Observed.{hasMember, hasEdge, hasUnnamedEdge}
 use Rattle.resolution.specs.Resolution.{find}
 use Rattle.resolution.specs.declared.configuration.Configuration.{Configuration}
+use Rattle.access.specs.declared.access.AccessKind.{AccessKind}
+use Rattle.access.specs.declared.access.AccessKind.the-variants.{Access, Reflection}
 use Rattle.access.specs.declared.access.AccessCheckResult.{AccessCheckResult}
 use Rattle.access.specs.declared.access.AccessCheckResult.the-variants.{Allowed, NotReadable, NotExported, NotOpened}
 use Rattle.access.specs.declared.access.AccessAnswer.{AccessAnswer}
@@ -54,6 +56,12 @@ readsName s c x y = passes (isReader s c y) (findModule s x)
 unfoldable pub resolvedModule : List ℕ → Configuration → Name → Option Descriptor
 unfolding isMember find
 resolvedModule s c n = cond (isMember s c n) (find n (modules s)) none
+
+-- ---- the kind of a question: "an enum of two" (U8)
+
+abbrev pub isReflection : AccessKind → Bool
+isReflection Access = false
+isReflection Reflection = true
 
 -- ---- what a module grants
 

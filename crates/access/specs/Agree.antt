@@ -1,7 +1,7 @@
 -- Whatever is given a set reads a configuration by the three tests of the crate `resolution` (`Observed`) alone: over any
 -- configuration a position whose module is hidden counts as one without a module.
 use mathlib.Core.Path.{_≡_}
-use mathlib.Core.Bool.{Bool, true}
+use mathlib.Core.Bool.{true}
 use mathlib.Core.List.{List}
 use Prim.Native.Nat.{ℕ}
 use Rattle.records.specs.Set.{modules}
@@ -12,9 +12,10 @@ use Rattle.resolution.specs.PackageOwner.{findModuleForPackage}
 use Rattle.resolution.specs.Positions.{isVisible}
 use Rattle.resolution.specs.Row.{holds}
 use Rattle.resolution.specs.declared.configuration.Configuration.{Configuration}
-use Rattle.access.specs.Access.{checkAccess}
+use Rattle.access.specs.Access.{isReflection, checkAccess}
 use Rattle.access.specs.CanRead.{canRead}
 use Rattle.access.specs.ReadGraph.{readersOf, TransitiveReads}
+use Rattle.access.specs.declared.access.AccessKind.{AccessKind}
 use Rattle.access.specs.declared.graph.GraphAnswer.{GraphAnswer}
 
 -- the three tests say the same of both, at every position
@@ -31,8 +32,8 @@ pub record SameVisibleBits (s : List ℕ) (c₁ c₂ : Configuration) : Type 0 w
 
 -- every question has the same answer over both
 pub record SameAnswers (s : List ℕ) (c₁ c₂ : Configuration) : Type 0 where
-  pub verdicts : (reflection : Bool) (q : List ℕ) (asker target p : Name)
-      → checkAccess reflection s q c₁ asker target p ≡ checkAccess reflection s q c₂ asker target p
+  pub verdicts : (kind : AccessKind) (q : List ℕ) (asker target p : Name)
+      → checkAccess (isReflection kind) s q c₁ asker target p ≡ checkAccess (isReflection kind) s q c₂ asker target p
   pub can-read : (x y : Name) → canRead s c₁ x y ≡ canRead s c₂ x y
   pub readers : (y : Name) → readersOf s c₁ y ≡ readersOf s c₂ y
   pub owners : (p : Name) → findModuleForPackage s c₁ p ≡ findModuleForPackage s c₂ p

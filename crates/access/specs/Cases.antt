@@ -1,7 +1,7 @@
 -- Document 01's ten cases ("Cases to prove"), of the definitions over bytes.
 use Prim.Native.Nat.{ℕ}
 use mathlib.Core.Path.{_≡_}
-use mathlib.Core.Bool.{true, false}
+use mathlib.Core.Bool.{true}
 use mathlib.Core.Option.{some}
 use mathlib.Core.List.{List, [], _∷_}
 use Rattle.records.specs.Name.{javaBase}
@@ -20,8 +20,9 @@ use Rattle.resolution.specs.Resolution as Resolution
 use Rattle.resolution.specs.Resolve.{refused, resolve}
 use Rattle.resolution.specs.Cases.{membersOf, readsOf, ownersOf, a, b, c, javaLang, pageCore, pageFoot, pageFrames, footPackage, framePackage, baseSet, listingSet, cycleSet, listingRequest, rootA, rootANothingPermitted}
 use Rattle.resolution.specs.declared.resolve.Outcome.the-variants.{Accepted}
-use Rattle.access.specs.Access.{readsName, checkAccess}
+use Rattle.access.specs.Access.{readsName, isReflection, checkAccess}
 use Rattle.access.specs.Demand3.{configuration}
+use Rattle.access.specs.declared.access.AccessKind.the-variants.{Access}
 use Rattle.access.specs.declared.access.AccessAnswer.the-variants.{Verdict}
 use Rattle.access.specs.declared.access.AccessCheckResult.the-variants.{NotExported}
 
@@ -66,7 +67,7 @@ pub record TenCases : Type 0 where
   pub case8 : derived onlyJar ≡ Named.Refused InvalidAutomaticModuleName
   -- "(9) EX p to b, then EX p unqualified, asker c reading it: NotExported"
   pub case9-reads : readsName exportsSet (configuration exportsSet rootC) c a ≡ true
-  pub case9 : checkAccess false exportsSet rootC (configuration exportsSet rootC) c a p ≡ Verdict NotExported
+  pub case9 : checkAccess (isReflection Access) exportsSet rootC (configuration exportsSet rootC) c a p ≡ Verdict NotExported
   -- "(10) java.base, root a, a and b requiring each other transitively: both read themselves"
   pub case10 : resolve cycleSet rootA .outcome ≡ Accepted
   pub case10-reads : readsOf (requestOf rootA) (resolved cycleSet rootA) ≡ (a, a ∷ b ∷ javaBase ∷ []) ∷ (b, a ∷ b ∷ javaBase ∷ []) ∷ (javaBase, []) ∷ []

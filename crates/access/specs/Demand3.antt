@@ -1,7 +1,7 @@
 -- Demand 3, whole, over bytes. A pair of a set and a request is accepted where `resolve` accepts it; its configuration is the one
 -- that `resolve` gives. All is told by names.
 use mathlib.Core.Path.{_≡_}
-use mathlib.Core.Bool.{Bool, true}
+use mathlib.Core.Bool.{true}
 use mathlib.Core.List.{List}
 use Prim.Native.Nat.{ℕ}
 use Rattle.records.specs.Request.{Read, Grant, requestOf, isPermitted}
@@ -15,7 +15,8 @@ use Rattle.resolution.specs.Positions.{moduleAt}
 use Rattle.resolution.specs.declared.configuration.Configuration.{Configuration}
 use Rattle.resolution.specs.declared.owner.Owner.the-variants.{At}
 use Rattle.resolution.specs.declared.resolve.Outcome.the-variants.{Accepted}
-use Rattle.access.specs.Access.{isMember, readsName, checkAccess}
+use Rattle.access.specs.Access.{isMember, readsName, isReflection, checkAccess}
+use Rattle.access.specs.declared.access.AccessKind.{AccessKind}
 use Rattle.access.specs.declared.access.AccessAnswer.the-variants.{Verdict}
 use Rattle.access.specs.declared.access.AccessCheckResult.the-variants.{Allowed}
 
@@ -60,8 +61,8 @@ pub record KeepsAll (s₁ q₁ s₂ q₂ : List ℕ) : Type 0 where
   pub owners : (n p : Name) → Owns s₁ q₁ n p → Owns s₂ q₂ n p
   -- "and every question of any three byte strings, for access or for reflection, that is Allowed in the first is Allowed in the
   -- second"
-  pub allowed : (reflection : Bool) (asker target p : Name) → checkAccess reflection s₁ q₁ (configuration s₁ q₁) asker target p ≡ Verdict Allowed
-      → checkAccess reflection s₂ q₂ (configuration s₂ q₂) asker target p ≡ Verdict Allowed
+  pub allowed : (kind : AccessKind) (asker target p : Name) → checkAccess (isReflection kind) s₁ q₁ (configuration s₁ q₁) asker target p ≡ Verdict Allowed
+      → checkAccess (isReflection kind) s₂ q₂ (configuration s₂ q₂) asker target p ≡ Verdict Allowed
 
 pub record Demand3 : Type 1 where
   -- "Whatever the set and the request, if accepted: the modules resolved are a set of observable modules that holds java.base,

@@ -1,6 +1,7 @@
--- The definitions: verdicts and the graph of reads over any configuration, demand 3, the ten cases, those of places, those of the
--- other rules and those of static requirements.
+-- The definitions: verdicts, those of the former pair, and the graph of reads over any configuration, demand 3, the ten cases, those
+-- of places, those of the other rules and those of static requirements.
 pub mod Access
+pub mod FormerPair
 pub mod CanRead
 pub mod ReadGraph
 pub mod Demand3

@@ -11,10 +11,11 @@ use Rattle.resolution.specs.Cases.{a, b, rootA}
 use Rattle.resolution.specs.PackageOwner.{findModuleForPackage}
 use Rattle.resolution.specs.declared.configuration.Configuration.{Configuration}
 use Rattle.resolution.specs.declared.owner.Owner.the-variants.{At, Nothing}
-use Rattle.access.specs.Access.{isMember, checkAccess}
+use Rattle.access.specs.Access.{isMember, isReflection, checkAccess}
 use Rattle.access.specs.ReadGraph.{readersOf}
 use Rattle.access.specs.Cases.{p}
 use Rattle.access.specs.Demand3.{IsAccepted, configuration}
+use Rattle.access.specs.declared.access.AccessKind.the-variants.{Access}
 use Rattle.access.specs.declared.access.AccessAnswer.the-variants.{Verdict}
 use Rattle.access.specs.declared.access.AccessCheckResult.the-variants.{NotExported}
 use Rattle.access.specs.declared.graph.GraphOutcome.the-variants.{Answered}
@@ -64,7 +65,7 @@ pub record PlaceCases : Type 0 where
   -- its package has no owner, and its EX grants nothing
   pub seen-owner : findModuleForPackage hiddenSet (configuration hiddenSet hiddenRequest) p ≡ At 1
   pub hidden-owner : findModuleForPackage hiddenSet (configuration hiddenSet hiddenRequest) q ≡ Nothing
-  pub hidden-export : checkAccess false hiddenSet hiddenRequest (configuration hiddenSet hiddenRequest) a b q ≡ Verdict NotExported
+  pub hidden-export : checkAccess (isReflection Access) hiddenSet hiddenRequest (configuration hiddenSet hiddenRequest) a b q ≡ Verdict NotExported
   -- over a configuration that has its bits, it is no owner and no reader (`Agree` has this for any configuration)
   pub alone-owner : findModuleForPackage hiddenSet hiddenAlone q ≡ Nothing
   pub alone-readers : readersOf hiddenSet hiddenAlone javaBase ≡ record { outcome = Answered; row = replicate 4 0; unnamed = false }

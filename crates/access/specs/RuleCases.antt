@@ -25,16 +25,17 @@ use Rattle.resolution.specs.Cases.{a, b, c}
 use Rattle.resolution.specs.declared.configuration.Configuration.{Configuration}
 use Rattle.resolution.specs.declared.resolve.Outcome.{Outcome}
 use Rattle.resolution.specs.declared.resolve.Outcome.the-variants.{Accepted, Refused}
-use Rattle.access.specs.Access.{readsName, checkAccess}
+use Rattle.access.specs.Access.{readsName, isReflection, checkAccess}
 use Rattle.access.specs.CanRead.{canRead}
 use Rattle.access.specs.Cases.{p}
 use Rattle.access.specs.Demand3.{configuration}
-use Rattle.access.specs.Form.{marked, named, moduleWith, requiresWith, MO, MO-open, MO-automatic, RQ, RQ-transitive, RQ-static, EX, OP, US, PV, PK, MC, PL, RT, LM, AR, AE, AO}
+use Rattle.access.specs.Form.{marked, named, moduleWith, requiresWith, MO, MO-open, MO-automatic, RQ, RQ-transitive, EX, OP, US, PV, PK, MC, PL, RT, LM, AR, AE, AO}
 use Rattle.access.specs.PlaceCases.{q, PlaceCases}
 use Rattle.access.specs.ReadGraph.{readsAt, Leads, readersOf}
+use Rattle.access.specs.declared.access.AccessKind.the-variants.{Access, Reflection}
 use Rattle.access.specs.declared.access.AccessAnswer.{AccessAnswer}
 use Rattle.access.specs.declared.access.AccessAnswer.the-variants.{Verdict}
-use Rattle.access.specs.declared.access.AccessAnswer.the-variants as Access
+use Rattle.access.specs.declared.access.AccessAnswer.the-variants as Answer
 use Rattle.access.specs.declared.access.AccessCheckResult.the-variants.{Allowed, NotReadable, NotExported, NotOpened}
 use Rattle.access.specs.declared.access.ReadAnswer.the-variants.{Reads}
 use Rattle.access.specs.declared.graph.GraphOutcome.the-variants.{Answered}
@@ -111,10 +112,10 @@ abbrev pub reads : List ℕ → List ℕ → Name → Name → Bool
 reads set rq x y = readsName set (configuration set rq) x y
 
 abbrev pub access : List ℕ → List ℕ → Name → Name → Name → AccessAnswer
-access set rq asker target pkg = checkAccess false set rq (configuration set rq) asker target pkg
+access set rq asker target pkg = checkAccess (isReflection Access) set rq (configuration set rq) asker target pkg
 
 abbrev pub reflection : List ℕ → List ℕ → Name → Name → Name → AccessAnswer
-reflection set rq asker target pkg = checkAccess true set rq (configuration set rq) asker target pkg
+reflection set rq asker target pkg = checkAccess (isReflection Reflection) set rq (configuration set rq) asker target pkg
 
 -- these positions below 64, as four words
 abbrev pub word : ℕ → List ℕ
@@ -162,10 +163,10 @@ pub record RuleCases : Type 0 where
   pub reads-not-through : reads chain (RT a ++ RT c ++ LM (a ∷ c ∷ [])) a c ≡ false
   pub reads-from-base : reads (base ++ RQ-transitive b ++ MO a ++ MO b) (RT a) a b ≡ true
   -- "an edge counts if its source is a member": over any configuration
-  pub edge-counts : checkAccess false (beside (MO b ++ EX p [])) [] (edgeFromA 0b110) a b p ≡ Verdict Allowed
-  pub edge-of-non-member : checkAccess false (beside (MO b ++ EX p [])) [] (edgeFromA 0b100) a b p ≡ Verdict NotReadable
+  pub edge-counts : checkAccess (isReflection Access) (beside (MO b ++ EX p [])) [] (edgeFromA 0b110) a b p ≡ Verdict Allowed
+  pub edge-of-non-member : checkAccess (isReflection Access) (beside (MO b ++ EX p [])) [] (edgeFromA 0b100) a b p ≡ Verdict NotReadable
   -- its target need not be one: it is readable, and its EX grants nothing
-  pub edge-to-non-member : checkAccess false (beside (MO b ++ EX p [])) [] (edgeFromA 0b010) a b p ≡ Verdict NotExported
+  pub edge-to-non-member : checkAccess (isReflection Access) (beside (MO b ++ EX p [])) [] (edgeFromA 0b010) a b p ≡ Verdict NotExported
   -- "`transitive_reads` (one edge or more)": from a to b, and through b to c, which a does not read
   pub one-edge : Leads (readsAt chainBroken (configuration chainBroken (RT a))) 1 2
   pub two-edges : Leads (readsAt chainBroken (configuration chainBroken (RT a))) 1 3
@@ -307,7 +308,7 @@ pub record RuleCases : Type 0 where
   pub request-cut : outcome base (RT javaBase ++ (82 ∷ [])) ≡ Refused (Malformed Request 14)
   pub request-before-absent : outcome (MO a) (RT b ++ MO a) ≡ Refused (Malformed Request 6)
   -- "Questions take the set and request too and end only with 1 to 3": not with the 6 of resolution
-  pub question-refused : access base (RT javaBase ++ MO a) a a p ≡ Access.Refused (Malformed Request 14)
+  pub question-refused : access base (RT javaBase ++ MO a) a a p ≡ Answer.Refused (Malformed Request 14)
   pub question-answered : access (MO a) [] a a p ≡ Verdict Allowed
   -- 3: "module name seen before in the set, or ALL-UNNAMED"
   pub repeated : outcome (base ++ MO a ++ MO a) [] ≡ Refused (Repeated 28)

@@ -1,12 +1,12 @@
 -- A set and another, v, that give the same with a request, told by names. `visible-same` shows it of a set and its visible blocks one
 -- after the other (U2).
 use mathlib.Core.Path.{_≡_}
-use mathlib.Core.Bool.{Bool}
 use mathlib.Core.List.{List}
 use Prim.Native.Nat.{ℕ}
 use Rattle.resolution.specs.Lists.{Name}
-use Rattle.access.specs.Access.{isMember, readsName, checkAccess}
+use Rattle.access.specs.Access.{isMember, readsName, isReflection, checkAccess}
 use Rattle.access.specs.Demand3.{IsAccepted, configuration, Owns}
+use Rattle.access.specs.declared.access.AccessKind.{AccessKind}
 
 pub record SameByNames (s v q : List ℕ) : Type 0 where
   -- accepted both, or neither
@@ -18,5 +18,5 @@ pub record SameByNames (s v q : List ℕ) : Type 0 where
   pub owners : IsAccepted s q → (n p : Name) → Owns s q n p → Owns v q n p
   pub owners-back : IsAccepted s q → (n p : Name) → Owns v q n p → Owns s q n p
   -- and the same answer, of all four, to every question
-  pub verdicts : IsAccepted s q → (reflection : Bool) (asker target p : Name)
-      → checkAccess reflection s q (configuration s q) asker target p ≡ checkAccess reflection v q (configuration v q) asker target p
+  pub verdicts : IsAccepted s q → (kind : AccessKind) (asker target p : Name)
+      → checkAccess (isReflection kind) s q (configuration s q) asker target p ≡ checkAccess (isReflection kind) v q (configuration v q) asker target p

@@ -1,17 +1,15 @@
-// Verdicts: whether a module may access a package of another, or reflect on it. Everywhere below `reflection` says which of the
-// two questions is asked.
+// Verdicts: whether a module may access a package of another, or reflect on it.
 ghost use mathlib.Core.Path.{_≡_};
-ghost use mathlib.Core.Bool.{true, false, _&&_, _||_};
-ghost use mathlib.Core.Option.{some};
+ghost use mathlib.Core.Bool.{_&&_, _||_};
 ghost use Rattle.records.specs.Bytes.{sameBytes};
 ghost use Rattle.records.specs.Name.{javaBase, allUnnamed};
-ghost use Rattle.records.specs.Descriptor.{descriptorOf, reaches as entriesReach};
+ghost use Rattle.records.specs.Descriptor.{descriptorOf};
 ghost use Rattle.records.specs.Request.{requestOf, hasGrant};
 ghost use Rattle.records.specs.Set.{checkSet};
 ghost use Rattle.records.specs.Finder.{findModule};
 ghost use Rattle.records.specs.declared.set.SetAnswer.the-variants.{Modules};
 ghost use Rattle.resolution.specs.Row.{holds};
-ghost use Rattle.access.specs.Access.{passes, readsName, entriesOf, grantsOf, denied as deniedBy, pickResult, grants as grantsBy, granted as grantedBy, unnamedGranted, checkAccess};
+ghost use Rattle.access.specs.Access.{passes, readsName, isReflection, grantsOf, denied as deniedBy, pickResult, grants as grantsBy, granted as grantedBy, unnamedGranted, checkAccess};
 ghost use Rattle.access.specs.Members.{moduleOf, verdictBy};
 ghost use Rattle.access.specs.CanRead.{canRead};
 ghost use Rattle.access.specs.declared.access.AccessCheckResult.the-variants.{Allowed};
@@ -34,6 +32,12 @@ use resolution::configuration::Configuration;
 use resolution::configuration::row_of;
 use resolution::row::Row;
 use resolution::row::has;
+
+// What is asked.
+pub enum AccessKind {
+    Access,
+    Reflection,
+}
 
 pub enum AccessCheckResult {
     Allowed,
@@ -102,126 +106,100 @@ fn reads_name(
 }
 
 // An AE of the request, or an AO, of these names.
-fn has_override(request: &[u8], reflection: bool, source: &[u8], pkg: &[u8], target: &[u8]) -> bool
-    ensures { λ r. ⌜ r ≡ hasGrant (grantsOf reflection (requestOf (now (request .entry)))) (now (source .entry)) (now (pkg .entry)) (now (target .entry)) ⌝ }
+fn has_override(request: &[u8], kind: AccessKind, source: &[u8], pkg: &[u8], target: &[u8]) -> bool
+    ensures { λ r. ⌜ r ≡ hasGrant (grantsOf (isReflection kind) (requestOf (now (request .entry)))) (now (source .entry)) (now (pkg .entry)) (now (target .entry)) ⌝ }
 {
-    if reflection {
-        return has_grant(request, Kind::AddOpens, source, pkg, target);
+    match kind {
+        AccessKind::Access => has_grant(request, Kind::AddExports, source, pkg, target),
+        AccessKind::Reflection => has_grant(request, Kind::AddOpens, source, pkg, target),
     }
-    has_grant(request, Kind::AddExports, source, pkg, target)
 }
 
-// The packages of a block's module decide, not its entries.
-fn by_packages(reflection: bool, block: &[u8]) -> bool
-    ensures { λ r. ⌜ r ≡ descriptorOf (now (block .entry)) .isAutomatic || (reflection && descriptorOf (now (block .entry)) .isOpen) ⌝ }
+// What a block's module itself says: an automatic one, for reflection also an open one, by its packages, any other by its first EX
+// of the package, or OP.
+fn grants(kind: AccessKind, block: &[u8], pkg: &[u8], asker: &[u8]) -> bool
+    ensures { λ r. ⌜ r ≡ grantsBy (isReflection kind) (descriptorOf (now (block .entry))) (now (pkg .entry)) (now (asker .entry)) ⌝ }
 {
     if is_automatic(block) {
-        return true;
-    }
-    if reflection {
-        return is_open(block);
-    }
-    false
-}
-
-// The first EX of the package, or OP, is unqualified or names the asker.
-fn has_entry(reflection: bool, block: &[u8], pkg: &[u8], asker: &[u8]) -> bool
-    ensures { λ r. ⌜ r ≡ entriesReach (entriesOf reflection (descriptorOf (now (block .entry)))) (now (pkg .entry)) (now (asker .entry)) ⌝ }
-{
-    if reflection {
-        return reaches(block, Kind::Opens, pkg, asker);
-    }
-    reaches(block, Kind::Exports, pkg, asker)
-}
-
-// What the module itself says.
-fn grants(reflection: bool, block: &[u8], pkg: &[u8], asker: &[u8]) -> bool
-    ensures { λ r. ⌜ r ≡ grantsBy reflection (descriptorOf (now (block .entry))) (now (pkg .entry)) (now (asker .entry)) ⌝ }
-{
-    if by_packages(reflection, block) {
         return has_package(block, pkg);
     }
-    has_entry(reflection, block, pkg, asker)
+    match kind {
+        AccessKind::Access => reaches(block, Kind::Exports, pkg, asker),
+        AccessKind::Reflection => {
+            if is_open(block) {
+                return has_package(block, pkg);
+            }
+            reaches(block, Kind::Opens, pkg, asker)
+        }
+    }
 }
 
-// What the target says, where it is resolved.
+// An override, or what the target says, where it is resolved.
 fn granted(
     set: &[u8],
     starts: &[usize],
     found: Found,
-    reflection: bool,
-    pkg: &[u8],
-    asker: &[u8],
-) -> bool
-    ensures { λ r. ⌜ r ≡ grantedBy reflection (moduleOf (now (set .entry)) (now (starts .entry)) found) (now (pkg .entry)) (now (asker .entry)) ⌝ }
-{
-    match found {
-        Found::At(i) => grants(reflection, block(set, starts, i), pkg, asker),
-        Found::Nothing => false,
-    }
-}
-
-// A named asker that reads the target: an override, or what the target says.
-fn named_granted(
-    set: &[u8],
-    starts: &[usize],
-    found: Found,
     request: &[u8],
-    reflection: bool,
+    kind: AccessKind,
     asker: &[u8],
     target: &[u8],
     pkg: &[u8],
 ) -> bool
-    ensures { λ r. ⌜ r ≡ hasGrant (grantsOf reflection (requestOf (now (request .entry)))) (now (target .entry)) (now (pkg .entry)) (now (asker .entry)) || grantedBy reflection (moduleOf (now (set .entry)) (now (starts .entry)) found) (now (pkg .entry)) (now (asker .entry)) ⌝ }
+    ensures { λ r. ⌜ r ≡ hasGrant (grantsOf (isReflection kind) (requestOf (now (request .entry)))) (now (target .entry)) (now (pkg .entry)) (now (asker .entry)) || grantedBy (isReflection kind) (moduleOf (now (set .entry)) (now (starts .entry)) found) (now (pkg .entry)) (now (asker .entry)) ⌝ }
 {
-    if has_override(request, reflection, target, pkg, asker) {
+    if has_override(request, kind, target, pkg, asker) {
         return true;
     }
-    granted(set, starts, found, reflection, pkg, asker)
+    match found {
+        Found::At(i) => grants(kind, block(set, starts, i), pkg, asker),
+        Found::Nothing => false,
+    }
 }
 
-// A block's module, asked by ALL-UNNAMED.
-fn block_granted(block: &[u8], request: &[u8], reflection: bool, target: &[u8], pkg: &[u8]) -> bool
-    ensures { λ r. ⌜ r ≡ unnamedGranted reflection (requestOf (now (request .entry))) (now (target .entry)) (now (pkg .entry)) (some (descriptorOf (now (block .entry)))) ⌝ }
-{
-    if is_automatic(block) {
-        return has_package(block, pkg);
-    }
-    if has_override(request, reflection, target, pkg, b"ALL-UNNAMED") {
-        return true;
-    }
-    grants(reflection, block, pkg, b"ALL-UNNAMED")
-}
-
-// Asker ALL-UNNAMED: an unresolved target is denied.
+// Asker ALL-UNNAMED: an unresolved target is denied, and at an automatic one no override helps.
 fn unnamed_granted(
     set: &[u8],
     starts: &[usize],
     found: Found,
     request: &[u8],
-    reflection: bool,
+    kind: AccessKind,
     target: &[u8],
     pkg: &[u8],
 ) -> bool
-    ensures { λ r. ⌜ r ≡ unnamedGranted reflection (requestOf (now (request .entry))) (now (target .entry)) (now (pkg .entry)) (moduleOf (now (set .entry)) (now (starts .entry)) found) ⌝ }
+    ensures { λ r. ⌜ r ≡ unnamedGranted (isReflection kind) (requestOf (now (request .entry))) (now (target .entry)) (now (pkg .entry)) (moduleOf (now (set .entry)) (now (starts .entry)) found) ⌝ }
 {
     match found {
-        Found::At(i) => block_granted(block(set, starts, i), request, reflection, target, pkg),
+        Found::At(i) => {
+            let b = block(set, starts, i);
+            if is_automatic(b) {
+                return has_package(b, pkg);
+            }
+            granted(
+                set,
+                starts,
+                found,
+                request,
+                kind,
+                b"ALL-UNNAMED",
+                target,
+                pkg,
+            )
+        }
         Found::Nothing => false,
     }
 }
 
 // The verdict where the target is readable.
-fn allowed(reflection: bool, granted: bool) -> AccessCheckResult
-    ensures { λ r. ⌜ r ≡ pickResult granted Allowed (deniedBy reflection) ⌝ }
+fn allowed(kind: AccessKind, granted: bool) -> AccessCheckResult
+    ensures { λ r. ⌜ r ≡ pickResult granted Allowed (deniedBy (isReflection kind)) ⌝ }
 {
     if granted {
         return AccessCheckResult::Allowed;
     }
-    if reflection {
-        return AccessCheckResult::NotOpened;
+    match kind {
+        AccessKind::Access => AccessCheckResult::NotExported,
+        AccessKind::Reflection => AccessCheckResult::NotOpened,
     }
-    AccessCheckResult::NotExported
 }
 
 // A read edge, or target java.base.
@@ -234,49 +212,49 @@ fn readable(edge: bool, target: &[u8]) -> bool
     edge
 }
 
-// The verdict, by the member that is the target and by whether the asker can read the target.
+// The verdict, by the member that is the target, if one is, and by whether a read edge leads from the asker to the target.
 fn verdict(
     set: &[u8],
     starts: &[usize],
     found: Found,
     request: &[u8],
-    reflection: bool,
-    readable: bool,
+    edge: bool,
+    kind: AccessKind,
     asker: &[u8],
     target: &[u8],
     pkg: &[u8],
 ) -> AccessCheckResult
-    ensures { λ r. ⌜ r ≡ verdictBy reflection (requestOf (now (request .entry))) (moduleOf (now (set .entry)) (now (starts .entry)) found) readable (now (asker .entry)) (now (target .entry)) (now (pkg .entry)) ⌝ }
+    ensures { λ r. ⌜ r ≡ verdictBy (isReflection kind) (requestOf (now (request .entry))) (moduleOf (now (set .entry)) (now (starts .entry)) found) (edge || sameBytes (now (target .entry)) javaBase) (now (asker .entry)) (now (target .entry)) (now (pkg .entry)) ⌝ }
 {
     if same(asker, target) {
         return AccessCheckResult::Allowed;
     }
     if same(asker, b"ALL-UNNAMED") {
         return allowed(
-            reflection,
-            unnamed_granted(set, starts, found, request, reflection, target, pkg),
+            kind,
+            unnamed_granted(set, starts, found, request, kind, target, pkg),
         );
     }
-    if readable {
+    if readable(edge, target) {
         return allowed(
-            reflection,
-            named_granted(set, starts, found, request, reflection, asker, target, pkg),
+            kind,
+            granted(set, starts, found, request, kind, asker, target, pkg),
         );
     }
     AccessCheckResult::NotReadable
 }
 
-// The set and the request are checked first.
-fn answer(
+// Whether the asker may access the package of the target, or reflect on it. The set and the request are checked first.
+pub fn check_access(
     set: &[u8],
     request: &[u8],
-    reflection: bool,
     configuration: Configuration,
+    kind: AccessKind,
     asker: &[u8],
     target: &[u8],
     pkg: &[u8],
 ) -> AccessAnswer
-    ensures { λ r. ⌜ r ≡ checkAccess reflection (now (set .entry)) (now (request .entry)) configuration (now (asker .entry)) (now (target .entry)) (now (pkg .entry)) ⌝ }
+    ensures { λ r. ⌜ r ≡ checkAccess (isReflection kind) (now (set .entry)) (now (request .entry)) configuration (now (asker .entry)) (now (target .entry)) (now (pkg .entry)) ⌝ }
 {
     let checked = check(set, request);
     let answer = checked.answer;
@@ -287,47 +265,10 @@ fn answer(
             let words = configuration.members;
             let found = member(set, &starts, n, Row { words }, target);
             let edge = reads_name(set, &starts, n, configuration, asker, target);
-            AccessAnswer::Verdict(verdict(
-                set,
-                &starts,
-                found,
-                request,
-                reflection,
-                readable(edge, target),
-                asker,
-                target,
-                pkg,
-            ))
+            let v = verdict(set, &starts, found, request, edge, kind, asker, target, pkg);
+            AccessAnswer::Verdict(v)
         }
     }
-}
-
-// Whether the asker may access the package of the target.
-pub fn check_access(
-    set: &[u8],
-    request: &[u8],
-    configuration: Configuration,
-    asker: &[u8],
-    target: &[u8],
-    pkg: &[u8],
-) -> AccessAnswer
-    ensures { λ r. ⌜ r ≡ checkAccess false (now (set .entry)) (now (request .entry)) configuration (now (asker .entry)) (now (target .entry)) (now (pkg .entry)) ⌝ }
-{
-    answer(set, request, false, configuration, asker, target, pkg)
-}
-
-// Whether the asker may reflect on the package of the target.
-pub fn check_reflection_access(
-    set: &[u8],
-    request: &[u8],
-    configuration: Configuration,
-    asker: &[u8],
-    target: &[u8],
-    pkg: &[u8],
-) -> AccessAnswer
-    ensures { λ r. ⌜ r ≡ checkAccess true (now (set .entry)) (now (request .entry)) configuration (now (asker .entry)) (now (target .entry)) (now (pkg .entry)) ⌝ }
-{
-    answer(set, request, true, configuration, asker, target, pkg)
 }
 
 // Whether a module of the first name can read one of the second: equal names, java.base, or a read edge.

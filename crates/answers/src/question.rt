@@ -9,8 +9,8 @@ use crate::form::say;
 use crate::form::text;
 use access::access::AccessAnswer;
 use access::access::AccessCheckResult;
+use access::access::AccessKind;
 use access::access::check_access;
-use access::access::check_reflection_access;
 use access::graph::GraphAnswer;
 use access::graph::GraphOutcome;
 use access::graph::readers_of;
@@ -71,8 +71,10 @@ fn question<'a>(set: &[u8], request: &[u8], c: Configuration, s: &'a [u8]) -> &'
     let t = behind(s);
     let u = behind(t);
     let v = behind(u);
-    let a = verdict_of(check_access(set, request, c, text(s), text(t), text(u)));
-    let r = verdict_of(check_reflection_access(set, request, c, text(s), text(t), text(u)));
+    let access = AccessKind::Access;
+    let a = verdict_of(check_access(set, request, c, access, text(s), text(t), text(u)));
+    let reflection = AccessKind::Reflection;
+    let r = verdict_of(check_access(set, request, c, reflection, text(s), text(t), text(u)));
     print_verdicts(a, r, v);
     tail(v, 2)
 }

@@ -4,6 +4,7 @@ use crate::form::expect;
 use crate::form::number;
 use crate::form::say;
 use access::access::AccessAnswer;
+use access::access::AccessKind;
 use access::access::check_access;
 use records::bytes::be16;
 use records::bytes::byte;
@@ -133,7 +134,7 @@ pub fn expect_check(set: &[u8], request: &[u8], stored: usize, s: &[u8]) {
 
 // So does a question, also of a module about itself.
 pub fn expect_question(set: &[u8], request: &[u8], stored: usize, s: &[u8]) {
-    match check_access(set, request, nothing(), b"a", b"a", b"") {
+    match check_access(set, request, nothing(), AccessKind::Access, b"a", b"a", b"") {
         AccessAnswer::Verdict(_) => expect(3 < stored, b"question"),
         AccessAnswer::Refused(e) => expect_refusal(refusal_of(e), stored, s),
     }

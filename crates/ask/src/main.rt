@@ -2,8 +2,8 @@
 // and the one for reflection, or the number of the refusal; and on standard error the absent module, where one is.
 use access::access::AccessAnswer;
 use access::access::AccessCheckResult;
+use access::access::AccessKind;
 use access::access::check_access;
-use access::access::check_reflection_access;
 use libc::STDERR_FILENO;
 use libc::STDOUT_FILENO;
 use messages::tell_absent;
@@ -40,11 +40,11 @@ fn verdict(text: &[u8], answer: AccessAnswer) {
 fn ask(set: &[u8], request: &[u8], c: Configuration, asker: &[u8], target: &[u8], pkg: &[u8]) {
     verdict(
         b"access ",
-        check_access(set, request, c, asker, target, pkg),
+        check_access(set, request, c, AccessKind::Access, asker, target, pkg),
     );
     verdict(
         b"reflection ",
-        check_reflection_access(set, request, c, asker, target, pkg),
+        check_access(set, request, c, AccessKind::Reflection, asker, target, pkg),
     );
 }
 

@@ -1,8 +1,7 @@
 // Questions over the words of a configuration.
 ghost use mathlib.Core.Path.{_≡_};
-ghost use mathlib.Core.Bool.{true, false};
 ghost use Rattle.resolution.specs.PackageOwner.{findModuleForPackage};
-ghost use Rattle.access.specs.Access.{checkAccess};
+ghost use Rattle.access.specs.Access.{isReflection, checkAccess};
 ghost use Rattle.access.specs.CanRead.{canRead};
 ghost use Rattle.host.specs.Host.{overWords, verdictNumber, accessReply, readReply, ownerReply};
 ghost use Rattle.host.specs.Reply.{Told};
@@ -14,10 +13,10 @@ use crate::reply::too_few;
 use crate::words::configuration;
 use access::access::AccessAnswer;
 use access::access::AccessCheckResult;
+use access::access::AccessKind;
 use access::access::ReadAnswer;
 use access::access::can_read;
 use access::access::check_access;
-use access::access::check_reflection_access;
 use resolution::owner::Owner;
 use resolution::owner::find_module_for_package;
 
@@ -42,48 +41,38 @@ fn tell_access(a: AccessAnswer, particulars: &mut [u64; 4]) -> u64
     }
 }
 
-// Whether the asker may use the package of the target. The answer is a verdict: 0 Allowed, 1 NotReadable, 2 NotExported.
+// The kind that a host tells by a bool: true is reflection.
+fn kind_of(reflection: bool) -> AccessKind
+    ensures { λ r. ⌜ reflection ≡ isReflection r ⌝ }
+{
+    if reflection {
+        return AccessKind::Reflection;
+    }
+    AccessKind::Access
+}
+
+// Whether the asker may access the package of the target, or, where `reflection` is true, reflect on it. The answer is a verdict:
+// 0 Allowed, 1 NotReadable, 2 NotExported (access), 3 NotOpened (reflection).
 #[no_mangle]
 pub extern "C" fn saqhovune_check_access(
     set: &[u8],
     request: &[u8],
     words: &[u64],
+    reflection: bool,
     asker: &[u8],
     target: &[u8],
     pkg: &[u8],
     particulars: &mut [u64; 4],
 ) -> u64
-    ensures { λ r. ⌜ Told (overWords (now (words .entry)) (accessReply (checkAccess false (now (set .entry)) (now (request .entry)) (configurationOf (now (words .entry))) (now (asker .entry)) (now (target .entry)) (now (pkg .entry))))) (now (particulars .exit)) r ⌝ }
+    ensures { λ r. ⌜ Told (overWords (now (words .entry)) (accessReply (checkAccess reflection (now (set .entry)) (now (request .entry)) (configurationOf (now (words .entry))) (now (asker .entry)) (now (target .entry)) (now (pkg .entry))))) (now (particulars .exit)) r ⌝ }
 {
     if words.len() < 1032 {
         return too_few(particulars, 1032);
     }
     let c = configuration(words);
+    let kind = kind_of(reflection);
     tell_access(
-        check_access(set, request, c, asker, target, pkg),
-        particulars,
-    )
-}
-
-// The same for reflection. The answer is a verdict: 0 Allowed, 1 NotReadable, 3 NotOpened.
-#[no_mangle]
-pub extern "C" fn saqhovune_check_reflection_access(
-    set: &[u8],
-    request: &[u8],
-    words: &[u64],
-    asker: &[u8],
-    target: &[u8],
-    pkg: &[u8],
-    particulars: &mut [u64; 4],
-) -> u64
-    ensures { λ r. ⌜ Told (overWords (now (words .entry)) (accessReply (checkAccess true (now (set .entry)) (now (request .entry)) (configurationOf (now (words .entry))) (now (asker .entry)) (now (target .entry)) (now (pkg .entry))))) (now (particulars .exit)) r ⌝ }
-{
-    if words.len() < 1032 {
-        return too_few(particulars, 1032);
-    }
-    let c = configuration(words);
-    tell_access(
-        check_reflection_access(set, request, c, asker, target, pkg),
+        check_access(set, request, c, kind, asker, target, pkg),
         particulars,
     )
 }

@@ -1,7 +1,7 @@
 -- What each return of the questions shows.
 use Prim.Native.Nat.{ℕ}
 use mathlib.Core.Path.{_≡_, refl, sym, ap, _∙_}
-use mathlib.Core.Bool.{Bool, true, false, _&&_, _||_, or-false, or-true, or-comm}
+use mathlib.Core.Bool.{Bool, true, false, _&&_, _||_, cond, or-false, or-true, or-comm}
 use mathlib.Core.Option.{Option, some}
 use mathlib.Core.List.{List, map}
 use lib.ListN.{take}
@@ -34,9 +34,11 @@ use Rattle.resolution.proofs.Observed.{member-bit, edge-bit, unnamed-bit}
 use Rattle.resolution.proofs.Sets.{set-length, set-located, module-block}
 use Rattle.records.proofs.request.Taken.{inputs-taken}
 use Rattle.records.proofs.Logic.{by}
-use Rattle.access.specs.Access.{passes, isMember, edgeTo, isReader, readsName, resolvedModule, entriesOf, grantsOf, denied, pickResult, grants, granted, namedVerdict, unnamedGranted, unnamedVerdict, verdict, answered, checkAccess}
+use Rattle.access.specs.Access.{passes, isMember, edgeTo, isReader, readsName, resolvedModule, isReflection, entriesOf, grantsOf, denied, pickResult, grants, granted, namedVerdict, unnamedGranted, unnamedVerdict, verdict, answered, checkAccess}
 use Rattle.access.specs.Members.{amongMembers, memberIn, moduleOf, verdictBy}
 use Rattle.access.specs.CanRead.{readAnswered, canRead}
+use Rattle.access.specs.declared.access.AccessKind.{AccessKind}
+use Rattle.access.specs.declared.access.AccessKind.the-variants.{Access, Reflection}
 use Rattle.access.specs.declared.access.AccessCheckResult.{AccessCheckResult}
 use Rattle.access.specs.declared.access.AccessCheckResult.the-variants.{Allowed, NotReadable, NotExported, NotOpened}
 use Rattle.access.specs.declared.access.AccessAnswer.the-variants.{Verdict, Refused}
@@ -168,50 +170,41 @@ pub ruleset readable-laws = (readable-base, readable-edge)
 
 -- ---- what a module grants
 
-module _ (q : List ℕ) (x p y : Name) (f r : Bool) where
-  pub override-opens : f ≡ true → r ≡ hasGrant (map grantOf (bodies Kind.AddOpens q)) x p y → r ≡ hasGrant (grantsOf f (requestOf q)) x p y
-  unfolding grantsOf requestOf
-  override-opens e er = er ∙ sym (rw e)
-
-  pub override-exports : f ≡ false → r ≡ hasGrant (map grantOf (bodies Kind.AddExports q)) x p y → r ≡ hasGrant (grantsOf f (requestOf q)) x p y
+module _ (q : List ℕ) (x p y : Name) (k : AccessKind) (r : Bool) where
+  pub override-exports : k ≡ Access → r ≡ hasGrant (map grantOf (bodies Kind.AddExports q)) x p y → r ≡ hasGrant (grantsOf (isReflection k) (requestOf q)) x p y
   unfolding grantsOf requestOf
   override-exports e er = er ∙ sym (rw e)
 
-pub ruleset override-laws = (override-opens, override-exports)
+  pub override-opens : k ≡ Reflection → r ≡ hasGrant (map grantOf (bodies Kind.AddOpens q)) x p y → r ≡ hasGrant (grantsOf (isReflection k) (requestOf q)) x p y
+  unfolding grantsOf requestOf
+  override-opens e er = er ∙ sym (rw e)
 
-module _ (f a b : Bool) where
-  pub by-automatic : (r : Bool) → r ≡ a → r ≡ true → true ≡ a || (f && b)
-  by-automatic r er y = sym (rw (← er, y))
+pub ruleset override-laws = (override-exports, override-opens)
 
-  pub by-open : (r t : Bool) → r ≡ a → r ≡ false → f ≡ true → t ≡ b → t ≡ a || (f && b)
-  by-open r t er y z et = et ∙ sym (rw (← er, y, z))
+entries-are : (f : Bool) (b : List ℕ) → entriesOf f (descriptorOf b) ≡ map entryOf (bodies (cond f Kind.Opens Kind.Exports) b)
+unfolding entriesOf descriptorOf
+entries-are true b = refl
+entries-are false b = refl
 
-  pub by-entries : (r : Bool) → r ≡ a → r ≡ false → f ≡ false → false ≡ a || (f && b)
-  by-entries r er y z = sym (rw (← er, y, z))
-
-pub ruleset by-laws = (by-automatic, by-open, by-entries)
-
-module _ (b : List ℕ) (p y : Name) (f r : Bool) where
-  pub entry-opens : f ≡ true → r ≡ reaches (map entryOf (bodies Kind.Opens b)) p y → r ≡ reaches (entriesOf f (descriptorOf b)) p y
-  unfolding entriesOf descriptorOf
-  entry-opens e er = er ∙ sym (rw e)
-
-  pub entry-exports : f ≡ false → r ≡ reaches (map entryOf (bodies Kind.Exports b)) p y → r ≡ reaches (entriesOf f (descriptorOf b)) p y
-  unfolding entriesOf descriptorOf
-  entry-exports e er = er ∙ sym (rw e)
-
-pub ruleset entry-laws = (entry-opens, entry-exports)
-
-module _ (f : Bool) (m : Descriptor) (p y : Name) (a : Bool) (ea : a ≡ m .isAutomatic || (f && m .isOpen)) where
-  pub grants-packages : (r : Bool) → a ≡ true → r ≡ memName p (m .packages) → r ≡ grants f m p y
+module _ (k : AccessKind) (b : List ℕ) (p y : Name) (a : Bool) (ea : a ≡ descriptorOf b .isAutomatic) (r : Bool) where
+  pub grants-automatic : a ≡ true → r ≡ memName p (descriptorOf b .packages) → r ≡ grants (isReflection k) (descriptorOf b) p y
   unfolding grants
-  grants-packages r z er = er ∙ sym (rw (← ea, z))
+  grants-automatic z er = er ∙ sym (rw (← ea, z))
 
-  pub grants-entries : (r : Bool) → a ≡ false → r ≡ reaches (entriesOf f m) p y → r ≡ grants f m p y
+  pub grants-exports : a ≡ false → k ≡ Access → r ≡ reaches (map entryOf (bodies Kind.Exports b)) p y → r ≡ grants (isReflection k) (descriptorOf b) p y
   unfolding grants
-  grants-entries r z er = er ∙ sym (rw (← ea, z))
+  grants-exports z e er = er ∙ sym (rw (← ea, z, e, entries-are false b))
 
-pub ruleset grants-laws = (grants-packages, grants-entries)
+  module _ (z : a ≡ false) (e : k ≡ Reflection) (o : Bool) (eo : o ≡ descriptorOf b .isOpen) where
+    pub grants-open : o ≡ true → r ≡ memName p (descriptorOf b .packages) → r ≡ grants (isReflection k) (descriptorOf b) p y
+    unfolding grants
+    grants-open w er = er ∙ sym (rw (← ea, z, e, ← eo, w))
+
+    pub grants-opens : o ≡ false → r ≡ reaches (map entryOf (bodies Kind.Opens b)) p y → r ≡ grants (isReflection k) (descriptorOf b) p y
+    unfolding grants
+    grants-opens w er = er ∙ sym (rw (← ea, z, e, ← eo, w, entries-are true b))
+
+pub ruleset grants-laws = (grants-automatic, grants-exports, grants-open, grants-opens)
 
 module _ (s t : List ℕ) (f : Bool) (p y : Name) (x : Found) where
   pub granted-at : (i : ℕ) (b : List ℕ) (r : Bool) → x ≡ At i → b ≡ blockAt s t i → r ≡ grants f (descriptorOf b) p y → r ≡ granted f (moduleOf s t x) p y
@@ -222,8 +215,6 @@ module _ (s t : List ℕ) (f : Bool) (p y : Name) (x : Found) where
   unfolding granted moduleOf
   granted-none e = sym (rw e)
 
-pub ruleset granted-laws = (granted-at, granted-none)
-
 module _ (a b r : Bool) (er : r ≡ a) where
   pub or-first : r ≡ true → true ≡ a || b
   or-first y = sym (rw (← er, y))
@@ -233,50 +224,42 @@ module _ (a b r : Bool) (er : r ≡ a) where
 
 pub ruleset or-laws = (or-first, or-second)
 
+pub ruleset granted-laws = (or-first, or-second, granted-at, granted-none)
+
 -- ---- asker ALL-UNNAMED
 
-module _ (f : Bool) (rq : Request) (x p : Name) (m : Descriptor) (a : Bool) (ea : a ≡ m .isAutomatic) where
-  pub block-automatic : (r : Bool) → a ≡ true → r ≡ memName p (m .packages) → r ≡ unnamedGranted f rq x p (some m)
-  unfolding unnamedGranted
-  block-automatic r y er = er ∙ sym (rw (← ea, y))
-
-  pub block-override : (o : Bool) → a ≡ false → o ≡ hasGrant (grantsOf f rq) x p allUnnamed → o ≡ true → true ≡ unnamedGranted f rq x p (some m)
-  unfolding unnamedGranted
-  block-override o y eo z = sym (rw (← ea, y, ← eo, z))
-
-  pub block-own : (o r : Bool) → a ≡ false → o ≡ hasGrant (grantsOf f rq) x p allUnnamed → o ≡ false → r ≡ grants f m p allUnnamed
-      → r ≡ unnamedGranted f rq x p (some m)
-  unfolding unnamedGranted
-  block-own o r y eo z er = er ∙ sym (rw (← ea, y, ← eo, z))
-
-pub ruleset block-laws = (block-automatic, block-override, block-own)
-
 module _ (s t : List ℕ) (f : Bool) (rq : Request) (x p : Name) (m : Found) where
-  pub unnamed-at : (i : ℕ) (b : List ℕ) (r : Bool) → m ≡ At i → b ≡ blockAt s t i → r ≡ unnamedGranted f rq x p (some (descriptorOf b))
-      → r ≡ unnamedGranted f rq x p (moduleOf s t m)
-  unfolding moduleOf
-  unnamed-at i b r e eb er = er ∙ sym (rw (e, ← eb))
+  module _ (i : ℕ) (b : List ℕ) (a r : Bool) (e : m ≡ At i) (eb : b ≡ blockAt s t i) (ea : a ≡ descriptorOf b .isAutomatic) where
+    pub unnamed-automatic : a ≡ true → r ≡ memName p (descriptorOf b .packages) → r ≡ unnamedGranted f rq x p (moduleOf s t m)
+    unfolding unnamedGranted moduleOf
+    unnamed-automatic z er = er ∙ sym (rw (e, ← eb, ← ea, z))
+
+    pub unnamed-other : a ≡ false → r ≡ hasGrant (grantsOf f rq) x p allUnnamed || granted f (moduleOf s t (At i)) p allUnnamed
+        → r ≡ unnamedGranted f rq x p (moduleOf s t m)
+    unfolding unnamedGranted moduleOf granted
+    unnamed-other z er = er ∙ rw (e, ← eb, ← ea, z)
 
   pub unnamed-none : m ≡ Nothing → false ≡ unnamedGranted f rq x p (moduleOf s t m)
   unfolding moduleOf unnamedGranted
   unnamed-none e = sym (rw e)
 
-pub ruleset unnamed-laws = (unnamed-at, unnamed-none)
+pub ruleset unnamed-laws = (unnamed-automatic, unnamed-other, unnamed-none)
 
 -- ---- the verdict
 
-pub allowed-yes : (f g : Bool) → g ≡ true → Allowed ≡ pickResult g Allowed (denied f)
-allowed-yes f g y = sym (rw y)
+module _ (k : AccessKind) (g : Bool) where
+  pub allowed-yes : g ≡ true → Allowed ≡ pickResult g Allowed (denied (isReflection k))
+  allowed-yes y = sym (rw y)
 
-pub allowed-opens : (f g : Bool) → g ≡ false → f ≡ true → NotOpened ≡ pickResult g Allowed (denied f)
-unfolding denied
-allowed-opens f g y z = sym (rw (y, z))
+  pub allowed-exports : g ≡ false → k ≡ Access → NotExported ≡ pickResult g Allowed (denied (isReflection k))
+  unfolding denied
+  allowed-exports y z = sym (rw (y, z))
 
-pub allowed-exports : (f g : Bool) → g ≡ false → f ≡ false → NotExported ≡ pickResult g Allowed (denied f)
-unfolding denied
-allowed-exports f g y z = sym (rw (y, z))
+  pub allowed-opens : g ≡ false → k ≡ Reflection → NotOpened ≡ pickResult g Allowed (denied (isReflection k))
+  unfolding denied
+  allowed-opens y z = sym (rw (y, z))
 
-pub ruleset allowed-laws = (allowed-yes, allowed-opens, allowed-exports)
+pub ruleset allowed-laws = (allowed-yes, allowed-exports, allowed-opens)
 
 -- the module of the member is the module that is resolved
 module _ (s : List ℕ) (n : ℕ) (t : List ℕ) (k : checkSet s ≡ record { answer = Modules n; starts = t }) (c : Configuration) (x : Name) where
@@ -311,14 +294,14 @@ module _ (rq : Request) (f : Bool) (o : Option Descriptor) (e : Bool) (x y p : N
     unfolding verdictBy
     verdict-unnamed g r w eg er = er ∙ rw eg (sym (rw (← ea, z, ← eb, w)))
 
-    pub verdict-not : b ≡ false → e ≡ false → NotReadable ≡ verdictBy f rq o e x y p
+    pub verdict-not : (d : Bool) → b ≡ false → d ≡ e → d ≡ false → NotReadable ≡ verdictBy f rq o e x y p
     unfolding verdictBy
-    verdict-not w v = sym (rw (← ea, z, ← eb, w, v))
+    verdict-not d w ed v = sym (rw (← ea, z, ← eb, w, ← ed, v))
 
-    pub verdict-named : (g : Bool) (r : AccessCheckResult) → b ≡ false → e ≡ true → g ≡ hasGrant (grantsOf f rq) y p x || granted f o p x
+    pub verdict-named : (d g : Bool) (r : AccessCheckResult) → b ≡ false → d ≡ e → d ≡ true → g ≡ hasGrant (grantsOf f rq) y p x || granted f o p x
         → r ≡ pickResult g Allowed (denied f) → r ≡ verdictBy f rq o e x y p
     unfolding verdictBy
-    verdict-named g r w v eg er = er ∙ rw eg (sym (rw (← ea, z, ← eb, w, v)))
+    verdict-named d g r w ed v eg er = er ∙ rw eg (sym (rw (← ea, z, ← eb, w, ← ed, v)))
 
 pub ruleset verdict-laws = (verdict-same, verdict-unnamed, verdict-not, verdict-named)
 
@@ -329,12 +312,12 @@ module _ (s q : List ℕ) (f : Bool) (c : Configuration) (x y p : Name) (k : Che
   unfolding checkAccess answered
   answer-refused e h = sym (ap (answered f s q c x y p) (ap (λ (z : Checked). z .answer) (sym ek) ∙ h))
 
-  pub answer-verdict : (n : ℕ) (m : Found) (e d : Bool) (r : AccessCheckResult) → k .answer ≡ Modules n → m ≡ memberIn s (c .members) y
-      → e ≡ readsName s c x y → d ≡ e || sameBytes y javaBase → r ≡ verdictBy f (requestOf q) (moduleOf s (k .starts) m) d x y p
+  pub answer-verdict : (n : ℕ) (m : Found) (e : Bool) (r : AccessCheckResult) → k .answer ≡ Modules n → m ≡ memberIn s (c .members) y
+      → e ≡ readsName s c x y → r ≡ verdictBy f (requestOf q) (moduleOf s (k .starts) m) (e || sameBytes y javaBase) x y p
       → Verdict r ≡ checkAccess f s q c x y p
   unfolding checkAccess answered verdict namedVerdict unnamedVerdict verdictBy
-  answer-verdict n m e d r h em ee ed er =
-      ap Verdict (er ∙ rw (resolved-is s n (k .starts) (inputs-taken s q n k ek h) c y m em, ed, ee))
+  answer-verdict n m e r h em ee er =
+      ap Verdict (er ∙ rw (resolved-is s n (k .starts) (inputs-taken s q n k ek h) c y m em, ee))
       ∙ sym (ap (answered f s q c x y p) (ap (λ (z : Checked). z .answer) (sym ek) ∙ h))
 
 pub answer-set : (s q : List ℕ) (k : Checked) → k ≡ checkInputs s q → (n : ℕ) → k .answer ≡ Modules n → checkSet s ≡ record { answer = Modules n; starts = k .starts }

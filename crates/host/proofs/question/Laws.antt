@@ -77,10 +77,10 @@ module _ (after : List ℕ) (r : ℕ) where
   -- ---- over the words of a configuration
 
   module _ (ws : List ℕ) (c : Configuration) (l : 1032 ≤ length ws) (ec : c ≡ configurationOf ws) where
-    pub access-told : (b : Bool) (s q x y p : List ℕ) (a : AccessAnswer) → a ≡ checkAccess b s q c x y p → Told (accessReply a) after r
+    pub access-told : (f b : Bool) (s q x y p : List ℕ) (a : AccessAnswer) → b ≡ f → a ≡ checkAccess f s q c x y p → Told (accessReply a) after r
         → Told (overWords ws (accessReply (checkAccess b s q (configurationOf ws) x y p))) after r
-    access-told b s q x y p a e t =
-        over-enough ws (accessReply (checkAccess b s q (configurationOf ws) x y p)) after r l (rw (← ec, ← e) t)
+    access-told f b s q x y p a h e t =
+        over-enough ws (accessReply (checkAccess b s q (configurationOf ws) x y p)) after r l (rw (h, ← ec, ← e) t)
 
     pub read-told : (s x y : List ℕ) (a : ReadAnswer) → a ≡ canRead s c x y → Told (readReply a) after r
         → Told (overWords ws (readReply (canRead s (configurationOf ws) x y))) after r

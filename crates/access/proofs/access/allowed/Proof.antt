@@ -9,4 +9,6 @@ allowed-spec =
     (tie.spec
     (λ c. search (allowed-laws, needs))
     (λ c. search (allowed-laws, needs))
+    (λ c. search (allowed-laws, needs))
+    (λ c. search (allowed-laws, needs))
     (λ c. search (allowed-laws, needs)))

@@ -7,6 +7,8 @@ pub granted-spec : {M : Type 1} → statement M
 granted-spec =
     tie.close
     (tie.spec
+    (λ c κs. search (granted-laws, needs))
+    (λ c. search (granted-laws, needs))
     (λ c. search (granted-laws, needs))
     (λ c κs. search (granted-laws, needs))
     (λ c κs. search (granted-laws, needs))

@@ -7,7 +7,9 @@ pub has-override-spec : {M : Type 1} → statement M
 has-override-spec =
     tie.close
     (tie.spec
+    (λ c. search (override-laws, needs))
     (λ c κs. search (override-laws, needs))
     (λ c. search (override-laws, needs))
     (λ c κs. search (override-laws, needs))
+    (λ c. search (override-laws, needs))
     (λ c. search (override-laws, needs)))

@@ -16,5 +16,6 @@ verdict-spec =
     (λ c. search (verdict-laws, needs))
     (λ c κs. search (verdict-laws, needs))
     (λ c κs. search (verdict-laws, needs))
+    (λ c κs. search (verdict-laws, needs))
     (λ c. search (verdict-laws, needs))
     (λ c. search (verdict-laws, needs)))

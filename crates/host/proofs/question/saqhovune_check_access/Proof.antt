@@ -12,4 +12,5 @@ saqhovune-check-access-spec =
     (λ c κs. search (access-laws, needs))
     (λ c κs. search (access-laws, needs))
     (λ c κs. search (access-laws, needs))
+    (λ c κs. search (access-laws, needs))
     (λ c. search (access-laws, needs)))

@@ -1,10 +1,10 @@
 use Rattle.access.proofs.access.Laws.{answer-laws}
 use borrow.Author.Needs.{needs}
-use Rattle.access.proofs.access.answer.Statement.{statement}
-use Rattle.access.proofs.access.answer.Tie as tie
+use Rattle.access.proofs.access.check_access.Statement.{statement}
+use Rattle.access.proofs.access.check_access.Tie as tie
 
-pub answer-spec : {M : Type 1} → statement M
-answer-spec =
+pub check-access-spec : {M : Type 1} → statement M
+check-access-spec =
     tie.close
     (tie.spec
     (λ c κs. search (answer-laws, needs))
@@ -15,7 +15,6 @@ answer-spec =
     (λ c. search (answer-laws, needs))
     (λ c κs. search (answer-laws, needs))
     (λ c. search (answer-laws, needs))
-    (λ c κs. search (answer-laws, needs))
     (λ c κs. search (answer-laws, needs))
     (λ c. search (answer-laws, needs))
     (λ c. search (answer-laws, needs)))
