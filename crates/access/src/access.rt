@@ -8,6 +8,7 @@ ghost use Rattle.records.specs.Request.{requestOf, hasGrant};
 ghost use Rattle.records.specs.Set.{checkSet};
 ghost use Rattle.records.specs.Finder.{findModule};
 ghost use Rattle.records.specs.declared.set.SetAnswer.the-variants.{Modules};
+ghost use Rattle.resolution.specs.Lookup.{Lookup};
 ghost use Rattle.resolution.specs.Row.{holds};
 ghost use Rattle.access.specs.Access.{passes, readsName, isReflection, grantsOf, denied as deniedBy, pickResult, grants as grantsBy, granted as grantedBy, unnamedGranted, checkAccess};
 ghost use Rattle.access.specs.Members.{moduleOf, verdictBy};
@@ -21,13 +22,13 @@ use records::descriptor::is_open;
 use records::descriptor::reaches;
 use records::error::ModuleError;
 use records::finder::Found;
-use records::finder::find;
 use records::record::Kind;
-use records::request::check;
+use records::request::check_with;
 use records::request::has_grant;
 use records::set::SetAnswer;
 use records::set::block;
-use records::set::check_set;
+use records::set::check_set_with;
+use records::sorted::find_in;
 use resolution::configuration::Configuration;
 use resolution::configuration::row_of;
 use resolution::row::Row;
@@ -69,14 +70,23 @@ fn is_unnamed(name: &[u8], unnamed: bool) -> bool
 }
 
 // Whether the row holds the module of this name, or, where it reads ALL-UNNAMED, the name is that.
-fn leads_to(set: &[u8], starts: &[usize], count: usize, row: Row, unnamed: bool, to: &[u8]) -> bool
+fn leads_to(
+    set: &[u8],
+    starts: &[usize],
+    count: usize,
+    index: &[usize],
+    row: Row,
+    unnamed: bool,
+    to: &[u8],
+) -> bool
     requires { ⌜ checkSet (now set) ≡ record { answer = Modules count; starts = now starts } ⌝ }
+    requires { ⌜ Lookup (now set) (now starts) count (now index) ⌝ }
     ensures { λ r. ⌜ r ≡ passes (holds (row .words)) (findModule (now (set .entry)) (now (to .entry))) || (sameBytes (now (to .entry)) allUnnamed && unnamed) ⌝ }
 {
     if is_unnamed(to, unnamed) {
         return true;
     }
-    match find(set, starts, count, to) {
+    match find_in(set, starts, count, index, to) {
         Found::At(j) => has(row, j),
         Found::Nothing => false,
     }
@@ -87,19 +97,29 @@ fn reads_name(
     set: &[u8],
     starts: &[usize],
     count: usize,
+    index: &[usize],
     configuration: Configuration,
     from: &[u8],
     to: &[u8],
 ) -> bool
     requires { ⌜ checkSet (now set) ≡ record { answer = Modules count; starts = now starts } ⌝ }
+    requires { ⌜ Lookup (now set) (now starts) count (now index) ⌝ }
     ensures { λ r. ⌜ r ≡ readsName (now (set .entry)) configuration (now (from .entry)) (now (to .entry)) ⌝ }
 {
     let members = configuration.members;
     let unnamed = configuration.unnamed;
-    match member(set, starts, count, Row { words: members }, from) {
+    match member(set, starts, count, index, Row { words: members }, from) {
         Found::At(i) => {
             let last = has(Row { words: unnamed }, i);
-            leads_to(set, starts, count, row_of(configuration, i), last, to)
+            leads_to(
+                set,
+                starts,
+                count,
+                index,
+                row_of(configuration, i),
+                last,
+                to,
+            )
         }
         Found::Nothing => false,
     }
@@ -256,15 +276,16 @@ pub fn check_access(
 ) -> AccessAnswer
     ensures { λ r. ⌜ r ≡ checkAccess (isReflection kind) (now (set .entry)) (now (request .entry)) configuration (now (asker .entry)) (now (target .entry)) (now (pkg .entry)) ⌝ }
 {
-    let checked = check(set, request);
+    let mut index = [0usize; 1026];
+    let checked = check_with(set, request, &mut index);
     let answer = checked.answer;
     match answer {
         SetAnswer::Refused(e) => AccessAnswer::Refused(e),
         SetAnswer::Modules(n) => {
             let starts = checked.starts;
             let words = configuration.members;
-            let found = member(set, &starts, n, Row { words }, target);
-            let edge = reads_name(set, &starts, n, configuration, asker, target);
+            let found = member(set, &starts, n, &index, Row { words }, target);
+            let edge = reads_name(set, &starts, n, &index, configuration, asker, target);
             let v = verdict(set, &starts, found, request, edge, kind, asker, target, pkg);
             AccessAnswer::Verdict(v)
         }
@@ -275,7 +296,8 @@ pub fn check_access(
 pub fn can_read(set: &[u8], configuration: Configuration, from: &[u8], to: &[u8]) -> ReadAnswer
     ensures { λ r. ⌜ r ≡ canRead (now (set .entry)) configuration (now (from .entry)) (now (to .entry)) ⌝ }
 {
-    let checked = check_set(set);
+    let mut index = [0usize; 1026];
+    let checked = check_set_with(set, &mut index);
     let answer = checked.answer;
     match answer {
         SetAnswer::Refused(e) => ReadAnswer::Refused(e),
@@ -284,7 +306,7 @@ pub fn can_read(set: &[u8], configuration: Configuration, from: &[u8], to: &[u8]
                 return ReadAnswer::Reads(true);
             }
             let starts = checked.starts;
-            let edge = reads_name(set, &starts, n, configuration, from, to);
+            let edge = reads_name(set, &starts, n, &index, configuration, from, to);
             ReadAnswer::Reads(readable(edge, to))
         }
     }

@@ -18,11 +18,9 @@ use crate::members::member;
 use records::bytes::same;
 use records::error::ModuleError;
 use records::finder::Found;
-use records::finder::find;
-use records::index::add_all;
-use records::index::is_first;
 use records::set::SetAnswer;
-use records::set::check_set;
+use records::set::check_set_with;
+use records::sorted::find_in;
 use resolution::configuration::Configuration;
 use resolution::row::Row;
 use resolution::row::count;
@@ -30,6 +28,7 @@ use resolution::row::empty;
 use resolution::row::has;
 use resolution::row::union;
 use resolution::row::with;
+use resolution::visible::visible;
 
 pub enum GraphOutcome {
     Answered,
@@ -234,84 +233,92 @@ fn onward(g: &[u64], seen: Row, members: Row, unnamed: Row, n: usize, i: usize) 
     tell(both(seen, row, n), last)
 }
 
-// The positions of the modules that are not hidden, by an index of their names.
-fn visible_in(set: &[u8], starts: &[usize], n: usize, index: &[u16]) -> Row
+// The members whose modules are not hidden.
+fn visible_members(set: &[u8], starts: &[usize], n: usize, index: &[usize], members: Row) -> Row
     requires { ⌜ checkSet (now set) ≡ record { answer = Modules n; starts = now starts } ⌝ }
     requires { ⌜ Lookup (now set) (now starts) n (now index) ⌝ }
-    ensures { λ r. ⌜ Holding (r .words) (isVisible (modules (now (set .entry)))) ⌝ }
-{
-    let mut row = empty();
-    let mut k: usize = 0;
-    while k < n {
-        let i = k;
-        k += 1;
-        if is_first(set, starts, n, index, i) {
-            row = with(row, i);
-        }
-    }
-    row
-}
-
-fn visible(set: &[u8], starts: &[usize], n: usize) -> Row
-    requires { ⌜ checkSet (now set) ≡ record { answer = Modules n; starts = now starts } ⌝ }
-    ensures { λ r. ⌜ Holding (r .words) (isVisible (modules (now (set .entry)))) ⌝ }
-{
-    let mut index = [0u16; 1280];
-    add_all(set, starts, n, &mut index);
-    visible_in(set, starts, n, &index)
-}
-
-// The members whose modules are not hidden.
-fn visible_members(set: &[u8], starts: &[usize], n: usize, members: Row) -> Row
-    requires { ⌜ checkSet (now set) ≡ record { answer = Modules n; starts = now starts } ⌝ }
     ensures { λ r. ⌜ Holding (r .words) (countsAt (isVisible (modules (now (set .entry)))) (members .words)) ⌝ }
 {
-    both(visible(set, starts, n), members, n)
+    both(visible(set, starts, n, index), members, n)
 }
 
-// The members that read the module of this name, or ALL-UNNAMED. The set is checked first.
+// The members that read the module of this name, or ALL-UNNAMED, in a set that the check takes.
+fn readers_in(
+    set: &[u8],
+    starts: &[usize],
+    n: usize,
+    index: &[usize],
+    configuration: Configuration,
+    name: &[u8],
+) -> GraphAnswer
+    requires { ⌜ checkSet (now set) ≡ record { answer = Modules n; starts = now starts } ⌝ }
+    requires { ⌜ Lookup (now set) (now starts) n (now index) ⌝ }
+    ensures { λ r. ⌜ r ≡ readersOf (now (set .entry)) configuration (now (name .entry)) ⌝ }
+{
+    let found = find_in(set, starts, n, index, name);
+    let asked = same(name, b"ALL-UNNAMED");
+    let members = configuration.members;
+    let unnamed = configuration.unnamed;
+    let g = configuration.reads;
+    let own = visible_members(set, starts, n, index, Row { words: members });
+    let row = readers(&g, own, Row { words: unnamed }, found, asked, n);
+    tell(row, false)
+}
+
+// The same for any set, which is checked first.
 pub fn readers_of(set: &[u8], configuration: Configuration, name: &[u8]) -> GraphAnswer
     ensures { λ r. ⌜ r ≡ readersOf (now (set .entry)) configuration (now (name .entry)) ⌝ }
 {
-    let checked = check_set(set);
+    let mut index = [0usize; 1026];
+    let checked = check_set_with(set, &mut index);
     let answer = checked.answer;
     match answer {
         SetAnswer::Refused(e) => refuse(e),
         SetAnswer::Modules(n) => {
             let starts = checked.starts;
-            let found = find(set, &starts, n, name);
-            let asked = same(name, b"ALL-UNNAMED");
-            let members = configuration.members;
-            let unnamed = configuration.unnamed;
-            let g = configuration.reads;
-            let own = visible_members(set, &starts, n, Row { words: members });
-            let row = readers(&g, own, Row { words: unnamed }, found, asked, n);
-            tell(row, false)
+            readers_in(set, &starts, n, &index, configuration, name)
         }
     }
 }
 
-// What one read edge or more lead to from the module of this name. The set is checked first.
+// What one read edge or more lead to from the module of this name, in a set that the check takes.
+fn reads_in(
+    set: &[u8],
+    starts: &[usize],
+    n: usize,
+    index: &[usize],
+    configuration: Configuration,
+    name: &[u8],
+) -> GraphAnswer
+    requires { ⌜ checkSet (now set) ≡ record { answer = Modules n; starts = now starts } ⌝ }
+    requires { ⌜ Lookup (now set) (now starts) n (now index) ⌝ }
+    ensures { λ r. ⌜ TransitiveReads (now (set .entry)) configuration (now (name .entry)) r ⌝ }
+{
+    let members = configuration.members;
+    let unnamed = configuration.unnamed;
+    let g = configuration.reads;
+    match member(set, starts, n, index, Row { words: members }, name) {
+        Found::At(i) => {
+            let seen = visible(set, starts, n, index);
+            let own = both(seen, Row { words: members }, n);
+            onward(&g, seen, own, Row { words: unnamed }, n, i)
+        }
+        Found::Nothing => tell(empty(), false),
+    }
+}
+
+// The same for any set, which is checked first.
 pub fn transitive_reads(set: &[u8], configuration: Configuration, name: &[u8]) -> GraphAnswer
     ensures { λ r. ⌜ TransitiveReads (now (set .entry)) configuration (now (name .entry)) r ⌝ }
 {
-    let checked = check_set(set);
+    let mut index = [0usize; 1026];
+    let checked = check_set_with(set, &mut index);
     let answer = checked.answer;
     match answer {
         SetAnswer::Refused(e) => refuse(e),
         SetAnswer::Modules(n) => {
             let starts = checked.starts;
-            let members = configuration.members;
-            let unnamed = configuration.unnamed;
-            let g = configuration.reads;
-            match member(set, &starts, n, Row { words: members }, name) {
-                Found::At(i) => {
-                    let seen = visible(set, &starts, n);
-                    let own = both(seen, Row { words: members }, n);
-                    onward(&g, seen, own, Row { words: unnamed }, n, i)
-                }
-                Found::Nothing => tell(empty(), false),
-            }
+            reads_in(set, &starts, n, &index, configuration, name)
         }
     }
 }

@@ -2,18 +2,27 @@
 ghost use mathlib.Core.Path.{_≡_};
 ghost use Rattle.records.specs.Set.{checkSet};
 ghost use Rattle.records.specs.declared.set.SetAnswer.the-variants.{Modules};
+ghost use Rattle.resolution.specs.Lookup.{Lookup};
 ghost use Rattle.access.specs.Members.{memberIn};
 use records::finder::Found;
-use records::finder::find;
+use records::sorted::find_in;
 use resolution::row::Row;
 use resolution::row::has;
 
 // The member of this name.
-pub fn member(set: &[u8], starts: &[usize], count: usize, members: Row, name: &[u8]) -> Found
+pub fn member(
+    set: &[u8],
+    starts: &[usize],
+    count: usize,
+    index: &[usize],
+    members: Row,
+    name: &[u8],
+) -> Found
     requires { ⌜ checkSet (now set) ≡ record { answer = Modules count; starts = now starts } ⌝ }
+    requires { ⌜ Lookup (now set) (now starts) count (now index) ⌝ }
     ensures { λ r. ⌜ r ≡ memberIn (now (set .entry)) (members .words) (now (name .entry)) ⌝ }
 {
-    match find(set, starts, count, name) {
+    match find_in(set, starts, count, index, name) {
         Found::At(i) => {
             if has(members, i) {
                 return Found::At(i);

@@ -70,7 +70,7 @@ fn stands_at(s: &[u8], table: &[usize], count: usize, at: usize, name: &[u8]) ->
 }
 
 // Moves the elements from `from` up to `count` up by one.
-fn shift(table: &mut [usize], from: usize, count: usize)
+pub fn shift(table: &mut [usize], from: usize, count: usize)
     requires { ⌜ from ≤ count ⌝ }
     requires { ⌜ count < length (now table) ⌝ }
     ensures { λ r. ⌜ now (table .exit) ≡ shifted (now (table .entry)) from count ⌝ }

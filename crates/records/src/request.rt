@@ -1,7 +1,8 @@
 // A request: its check, and what it says. Package records are checked the same way.
 ghost use mathlib.Core.Path.{_≡_};
-ghost use mathlib.Core.List.{map};
+ghost use mathlib.Core.List.{[], map};
 ghost use Rattle.records.specs.Record.{kindIn, bodies};
+ghost use Rattle.records.specs.Sorted.{Indexed, IndexedSet};
 ghost use Rattle.records.specs.Request.{rowOf, checkRecords, checkInputs, requestOf, isPermitted, grantOf, hasRead, hasGrant};
 use crate::bytes::part;
 use crate::bytes::same;
@@ -17,7 +18,7 @@ use crate::record::is_body;
 use crate::record::kind_in;
 use crate::set::Checked;
 use crate::set::SetAnswer;
-use crate::set::check_set;
+use crate::set::check_set_with;
 use crate::set::refuse;
 
 // Whether records are well-formed.
@@ -113,14 +114,17 @@ pub fn check_records(input: Input, s: &[u8]) -> RecordsAnswer
     }
 }
 
-// The check of a set and a request: both lengths, the set, then the request.
-pub fn check(set: &[u8], request: &[u8]) -> Checked
+// The check of a set and a request: both lengths, the set, then the request. The index, which is empty before, gets the names of
+// the set's modules.
+pub fn check_with(set: &[u8], request: &[u8], index: &mut [usize]) -> Checked
+    requires { ⌜ Indexed [] (now index) ⌝ }
     ensures { λ r. ⌜ r ≡ checkInputs (now (set .entry)) (now (request .entry)) ⌝ }
+    ensures { λ r. ⌜ IndexedSet (now (set .entry)) r (now (index .exit)) ⌝ }
 {
     if 65535 < request.len() {
         return refuse(ModuleError::TooLarge(0));
     }
-    let c = check_set(set);
+    let c = check_set_with(set, index);
     let answer = c.answer;
     match answer {
         SetAnswer::Refused(_) => c,
@@ -129,6 +133,14 @@ pub fn check(set: &[u8], request: &[u8]) -> Checked
             RecordsAnswer::Refused(e) => refuse(e),
         },
     }
+}
+
+// The same, for a caller that looks no module up.
+pub fn check(set: &[u8], request: &[u8]) -> Checked
+    ensures { λ r. ⌜ r ≡ checkInputs (now (set .entry)) (now (request .entry)) ⌝ }
+{
+    let mut index = [0usize; 1026];
+    check_with(set, request, &mut index)
 }
 
 // Whether the request permits the name.

@@ -1,25 +1,27 @@
 // A set of modules: its check, and the block of each module.
 ghost use mathlib.Core.Path.{_≡_};
 ghost use Prim.Native.Nat.{_+_, _-_, _≤_, _<_};
-ghost use mathlib.Core.List.{map};
+ghost use mathlib.Core.List.{[], map};
 ghost use lib.ListN.{length, getD, take, drop};
 ghost use Rattle.records.specs.Record.{setKind};
-ghost use Rattle.records.specs.Index.{Indexed};
-ghost use Rattle.records.specs.Set.{nameAt, hereOf, passedOf, isPlaced, admitAt, passAt, judgeAt, refused, checkSet, blockAt};
+ghost use Rattle.records.specs.Descriptor.{moduleName};
+ghost use Rattle.records.specs.Set.{nameAt, passedOf, isPlaced, admitAt, passAt, judgeAt, refused, checkSet, blockAt};
+ghost use Rattle.records.specs.Sorted.{Indexed, Kept, IndexedSet};
 use crate::bytes::part;
 use crate::bytes::same;
 use crate::bytes::tail;
 use crate::error::Input;
 use crate::error::ModuleError;
 use crate::finder::Found;
-use crate::index::add;
-use crate::index::find_in;
+use crate::finder::find;
 use crate::name::name_of;
 use crate::record::Cursor;
 use crate::record::Kind;
 use crate::record::Step;
 use crate::record::is_body;
 use crate::record::set_kind;
+use crate::sorted::add;
+use crate::sorted::look_first;
 
 // What one record of a set leads to.
 pub enum Verdict {
@@ -89,23 +91,21 @@ fn later(starts: &[usize], first: usize) -> &[usize]
     &starts[first..]
 }
 
-// Adds the next module of the present place to the index, which has those before it.
-fn add_here(set: &[u8], starts: &[usize], index: &mut [u16], seen: Seen)
-    requires { ⌜ seen .first ≤ seen .count ⌝ }
-    requires { ⌜ seen .count < 256 ⌝ }
-    requires { ⌜ seen .count < length (now starts) ⌝ }
-    requires { ⌜ Indexed (map (nameAt (now set)) (hereOf (now starts) seen)) (now index) ⌝ }
-    ensures { λ _. ⌜ Indexed (map (nameAt (now (set .entry))) (take (seen .count - seen .first + 1) (drop (seen .first) (now (starts .entry))))) (now (index .exit)) ⌝ }
-{
-    let first = seen.first;
-    add(set, later(starts, first), index, seen.count - first);
-}
-
-fn admit(set: &[u8], starts: &[usize], seen: Seen, index: &[u16], at: usize, body: &[u8]) -> Verdict
+// An MO at `at`. Where it starts a module, its name is added to the index. A name that is there already is looked for among those of
+// the present place.
+fn admit(
+    set: &[u8],
+    starts: &[usize],
+    seen: Seen,
+    index: &mut [usize],
+    at: usize,
+    body: &[u8],
+) -> Verdict
     requires { ⌜ seen .first ≤ seen .count ⌝ }
     requires { ⌜ seen .count ≤ length (now starts) ⌝ }
-    requires { ⌜ Indexed (map (nameAt (now set)) (hereOf (now starts) seen)) (now index) ⌝ }
+    requires { ⌜ Indexed (map (nameAt (now set)) (take (seen .count) (now starts))) (now index) ⌝ }
     ensures { λ r. ⌜ r ≡ admitAt (now (set .entry)) (passedOf (now (starts .entry)) seen) at (now (body .entry)) ⌝ }
+    ensures { λ r. ⌜ Kept (map (nameAt (now (set .entry))) (take (seen .count) (now (starts .entry)))) (moduleName (now (body .entry))) (now (index .entry)) (now (index .exit)) r ⌝ }
 {
     let count = seen.count;
     if 256 <= count {
@@ -115,8 +115,11 @@ fn admit(set: &[u8], starts: &[usize], seen: Seen, index: &[u16], at: usize, bod
     if same(name, b"ALL-UNNAMED") {
         return Verdict::Stop(ModuleError::Repeated(at));
     }
+    if add(set, starts, count, index, name) {
+        return Verdict::Start;
+    }
     let first = seen.first;
-    match find_in(set, later(starts, first), count - first, index, name) {
+    match find(set, later(starts, first), count - first, name) {
         Found::At(_) => Verdict::Stop(ModuleError::Repeated(at)),
         Found::Nothing => Verdict::Start,
     }
@@ -126,15 +129,16 @@ fn pass(
     set: &[u8],
     starts: &[usize],
     seen: Seen,
-    index: &[u16],
+    index: &mut [usize],
     at: usize,
     kind: Kind,
     body: &[u8],
 ) -> Verdict
     requires { ⌜ seen .first ≤ seen .count ⌝ }
     requires { ⌜ seen .count ≤ length (now starts) ⌝ }
-    requires { ⌜ Indexed (map (nameAt (now set)) (hereOf (now starts) seen)) (now index) ⌝ }
+    requires { ⌜ Indexed (map (nameAt (now set)) (take (seen .count) (now starts))) (now index) ⌝ }
     ensures { λ r. ⌜ r ≡ passAt (now (set .entry)) (passedOf (now (starts .entry)) seen) at kind (now (body .entry)) ⌝ }
+    ensures { λ r. ⌜ Kept (map (nameAt (now (set .entry))) (take (seen .count) (now (starts .entry)))) (moduleName (now (body .entry))) (now (index .entry)) (now (index .exit)) r ⌝ }
 {
     match kind {
         Kind::Module => admit(set, starts, seen, index, at, body),
@@ -153,7 +157,7 @@ fn judge(
     set: &[u8],
     starts: &[usize],
     seen: Seen,
-    index: &[u16],
+    index: &mut [usize],
     at: usize,
     mark: usize,
     start: usize,
@@ -161,8 +165,9 @@ fn judge(
 ) -> Verdict
     requires { ⌜ seen .first ≤ seen .count ⌝ }
     requires { ⌜ seen .count ≤ length (now starts) ⌝ }
-    requires { ⌜ Indexed (map (nameAt (now set)) (hereOf (now starts) seen)) (now index) ⌝ }
+    requires { ⌜ Indexed (map (nameAt (now set)) (take (seen .count) (now starts))) (now index) ⌝ }
     ensures { λ r. ⌜ r ≡ judgeAt (now (set .entry)) (passedOf (now (starts .entry)) seen) at (setKind mark) (take len (drop start (now (set .entry)))) ⌝ }
+    ensures { λ r. ⌜ Kept (map (nameAt (now (set .entry))) (take (seen .count) (now (starts .entry)))) (moduleName (take len (drop start (now (set .entry))))) (now (index .entry)) (now (index .exit)) r ⌝ }
 {
     let kind = set_kind(mark);
     let body = part(set, start, len);
@@ -184,16 +189,18 @@ pub fn refuse(e: ModuleError) -> Checked
     }
 }
 
-// The check of a set: its length, then its records from front to back, in one pass.
-pub fn check_set(set: &[u8]) -> Checked
+// The check of a set: its length, then its records from front to back, in one pass. The index, which is empty before, gets the
+// names of its modules.
+pub fn check_set_with(set: &[u8], index: &mut [usize]) -> Checked
+    requires { ⌜ Indexed [] (now index) ⌝ }
     ensures { λ r. ⌜ r ≡ checkSet (now (set .entry)) ⌝ }
+    ensures { λ r. ⌜ IndexedSet (now (set .entry)) r (now (index .exit)) ⌝ }
 {
     if 65535 < set.len() {
         return refuse(ModuleError::TooLarge(0));
     }
     let mut c = Cursor { at: 0 };
     let mut starts = [0usize; 257];
-    let mut index = [0u16; 1280];
     let mut seen = Seen {
         count: 0,
         first: 0,
@@ -209,14 +216,13 @@ pub fn check_set(set: &[u8]) -> Checked
                 len,
                 next,
             } => {
-                match judge(set, &starts, seen, &index, at, mark, start, len) {
+                match judge(set, &starts, seen, index, at, mark, start, len) {
                     Verdict::Stop(e) => {
                         return refuse(e);
                     }
                     Verdict::Start => {
                         let count = seen.count;
                         starts[count] = at;
-                        add_here(set, &starts, &mut index, seen);
                         seen.count = count + 1;
                         seen.main = false;
                     }
@@ -224,7 +230,6 @@ pub fn check_set(set: &[u8]) -> Checked
                         seen.main = true;
                     }
                     Verdict::Enter => {
-                        index = [0u16; 1280];
                         seen.first = seen.count;
                         if 0 < at {
                             seen.places += 1;
@@ -239,6 +244,7 @@ pub fn check_set(set: &[u8]) -> Checked
             }
             Step::End => {
                 let count = seen.count;
+                look_first(set, &starts, count, index);
                 starts[count] = set.len();
                 return Checked {
                     answer: SetAnswer::Modules(count),
@@ -247,6 +253,14 @@ pub fn check_set(set: &[u8]) -> Checked
             }
         }
     }
+}
+
+// The same, for a caller that looks no module up.
+pub fn check_set(set: &[u8]) -> Checked
+    ensures { λ r. ⌜ r ≡ checkSet (now (set .entry)) ⌝ }
+{
+    let mut index = [0usize; 1026];
+    check_set_with(set, &mut index)
 }
 
 // Entry i of a table, 0 where there is none: where module i starts, or the one before it ends.

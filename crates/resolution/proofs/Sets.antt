@@ -16,7 +16,7 @@ use Rattle.records.specs.Places.{hasPlace}
 use Rattle.records.specs.Record.{records}
 use Rattle.records.specs.Set.{nameAt, blocks, blockAt, modules, checkSet}
 use Rattle.records.specs.Finder.{findModule, isFirst, foundFrom, visibleBlocks}
-use Rattle.records.specs.Index.{Indexed}
+use Rattle.records.specs.Sorted.{Indexed}
 use Rattle.records.specs.declared.finder.Found.the-variants.{At, Nothing}
 use Rattle.records.specs.declared.set.SetAnswer.the-variants.{Modules}
 use Rattle.records.proofs.Logic.{by}

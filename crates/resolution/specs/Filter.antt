@@ -5,7 +5,6 @@ use mathlib.Core.Path.{_≡_}
 use mathlib.Core.Bool.{Bool, true, false, _&&_, cond}
 use mathlib.Core.Option.{Option, none, some}
 use mathlib.Core.List.{List, []}
-use Rattle.records.specs.Index.{hashOf}
 use Rattle.records.specs.Name.{memName}
 use Rattle.records.specs.Order.{nameIn}
 use Rattle.records.specs.Record.{bodies}
@@ -16,6 +15,7 @@ use Rattle.records.specs.declared.record.Kind.the-variants as Kind
 use Rattle.resolution.specs.Lists.{Name, Mem, any, keep, first}
 use Rattle.resolution.specs.Owner.{least, lesser}
 use Rattle.resolution.specs.Graph.{edge}
+use Rattle.resolution.specs.Hash.{hashOf}
 use Rattle.resolution.specs.Resolver.{Inputs, blockOf, namesOf, requiresName}
 use Rattle.resolution.specs.declared.modules.Least.{Least}
 

@@ -24,6 +24,7 @@ pub mod Visit
 -- The forms that the code follows, and what private functions promise. proofs/ shows that they say the same.
 pub mod Short
 pub mod Resolver
+pub mod Hash
 pub mod Filter
 pub mod Lookup
 pub mod Table

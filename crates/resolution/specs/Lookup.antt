@@ -7,7 +7,7 @@ use Rattle.records.specs.Name.{memName}
 use Rattle.records.specs.Descriptor.{Descriptor}
 use Rattle.records.specs.Set.{nameAt}
 use Rattle.records.specs.Finder.{isFirst}
-use Rattle.records.specs.Index.{Indexed}
+use Rattle.records.specs.Sorted.{Indexed}
 use Rattle.resolution.specs.Lists.{Name}
 use Rattle.resolution.specs.Row.{holds}
 

@@ -1,21 +1,25 @@
 // The steps around the resolver: the row of positions permitted and not hidden before it, the configuration or a refusal after it.
 ghost use mathlib.Core.Path.{_≡_};
 ghost use lib.ListN.{take};
-ghost use Rattle.records.specs.Set.{checkSet};
+ghost use Rattle.records.specs.Set.{checkSet, modules};
 ghost use Rattle.records.specs.declared.set.SetAnswer.the-variants.{Modules};
 ghost use Rattle.resolution.specs.Lookup.{Lookup};
+ghost use Rattle.resolution.specs.Positions.{isVisible};
+ghost use Rattle.resolution.specs.Readability.{Holding};
 ghost use Rattle.resolution.specs.Resolve.{refused};
 ghost use Rattle.resolution.specs.Configure.{MemberRow, AcceptedWith, Configured, PermittedRow};
 use crate::configuration::Configuration;
+use crate::limits::is_limited;
 use crate::readability::read_edges;
 use crate::resolve::Outcome;
 use crate::resolve::Resolution;
 use crate::row::Row;
 use crate::row::empty;
+use crate::row::has;
 use crate::row::with;
+use crate::visible::visible;
 use records::error::ModuleError;
 use records::finder::name_at;
-use records::index::is_first;
 use records::request::is_permitted;
 
 // A refusal: no member and no read edge.
@@ -32,10 +36,10 @@ pub fn refuse(e: ModuleError) -> Resolution
     }
 }
 
-// The positions of the set whose modules the request permits and that are not hidden: the first of their names.
-pub fn permitted(set: &[u8], request: &[u8], starts: &[usize], count: usize, index: &[u16]) -> Row
+// Those of the visible positions whose modules the request permits.
+fn permitted_among(set: &[u8], request: &[u8], starts: &[usize], count: usize, seen: Row) -> Row
     requires { ⌜ checkSet (now set) ≡ record { answer = Modules count; starts = now starts } ⌝ }
-    requires { ⌜ Lookup (now set) (now starts) count (now index) ⌝ }
+    requires { ⌜ Holding (seen .words) (isVisible (modules (now set))) ⌝ }
     ensures { λ r. ⌜ PermittedRow (now (set .entry)) (now (request .entry)) count (r .words) ⌝ }
 {
     let mut row = empty();
@@ -43,13 +47,26 @@ pub fn permitted(set: &[u8], request: &[u8], starts: &[usize], count: usize, ind
     while k < count {
         let i = k;
         k += 1;
-        if is_first(set, starts, count, index, i) {
+        if has(seen, i) {
             if is_permitted(request, name_at(set, starts[i])) {
                 row = with(row, i);
             }
         }
     }
     row
+}
+
+// The positions of the set whose modules the request permits and that are not hidden: without an LM the visible ones.
+pub fn permitted(set: &[u8], request: &[u8], starts: &[usize], count: usize, index: &[usize]) -> Row
+    requires { ⌜ checkSet (now set) ≡ record { answer = Modules count; starts = now starts } ⌝ }
+    requires { ⌜ Lookup (now set) (now starts) count (now index) ⌝ }
+    ensures { λ r. ⌜ PermittedRow (now (set .entry)) (now (request .entry)) count (r .words) ⌝ }
+{
+    let seen = visible(set, starts, count, index);
+    if is_limited(request) {
+        return permitted_among(set, request, starts, count, seen);
+    }
+    seen
 }
 
 // The first n positions of the order, as a row. Those from 256 on are left out.
@@ -90,7 +107,7 @@ pub fn configure(
     request: &[u8],
     starts: &[usize],
     count: usize,
-    index: &[u16],
+    index: &[usize],
     order: &[usize],
     n: usize,
 ) -> Resolution

@@ -2,7 +2,7 @@
 ghost use mathlib.Core.Path.{_≡_};
 ghost use Rattle.records.specs.Descriptor.{descriptorOf};
 ghost use Rattle.records.specs.Set.{blockAt};
-ghost use Rattle.resolution.specs.Lookup.{ownsBy};
+ghost use Rattle.resolution.specs.Lookup.{Lookup, ownsBy};
 ghost use Rattle.resolution.specs.PackageOwner.{findModuleForPackage};
 ghost use Rattle.resolution.specs.Readability.{tableNames};
 use crate::configuration::Configuration;
@@ -11,11 +11,11 @@ use crate::row::has;
 use records::descriptor::has_package;
 use records::descriptor::name;
 use records::error::ModuleError;
-use records::finder::find;
 use records::finder::is_at;
 use records::set::SetAnswer;
 use records::set::block;
-use records::set::check_set;
+use records::set::check_set_with;
+use records::sorted::find_in;
 
 // A module's position in its set.
 pub enum Owner {
@@ -25,13 +25,22 @@ pub enum Owner {
 }
 
 // Position i of the n modules is a member, and its module has the package and is not hidden.
-fn owns(set: &[u8], starts: &[usize], n: usize, members: Row, i: usize, pkg: &[u8]) -> bool
+fn owns(
+    set: &[u8],
+    starts: &[usize],
+    n: usize,
+    index: &[usize],
+    members: Row,
+    i: usize,
+    pkg: &[u8],
+) -> bool
+    requires { ⌜ Lookup (now set) (now starts) n (now index) ⌝ }
     ensures { λ r. ⌜ r ≡ ownsBy (tableNames (now (set .entry)) (now (starts .entry)) n) (members .words) (now (pkg .entry)) i (descriptorOf (blockAt (now (set .entry)) (now (starts .entry)) i)) ⌝ }
 {
     if has(members, i) {
         let b = block(set, starts, i);
         if has_package(b, pkg) {
-            return is_at(find(set, starts, n, name(b)), i);
+            return is_at(find_in(set, starts, n, index, name(b)), i);
         }
     }
     false
@@ -42,7 +51,8 @@ fn owns(set: &[u8], starts: &[usize], n: usize, members: Row, i: usize, pkg: &[u
 pub fn find_module_for_package(set: &[u8], configuration: Configuration, pkg: &[u8]) -> Owner
     ensures { λ r. ⌜ r ≡ findModuleForPackage (now (set .entry)) configuration (now (pkg .entry)) ⌝ }
 {
-    let checked = check_set(set);
+    let mut index = [0usize; 1026];
+    let checked = check_set_with(set, &mut index);
     let answer = checked.answer;
     match answer {
         SetAnswer::Refused(e) => Owner::Refused(e),
@@ -52,7 +62,7 @@ pub fn find_module_for_package(set: &[u8], configuration: Configuration, pkg: &[
             let members = Row { words };
             let mut i: usize = 0;
             while i < n {
-                if owns(set, &starts, n, members, i, pkg) {
+                if owns(set, &starts, n, &index, members, i, pkg) {
                     return Owner::At(i);
                 }
                 i += 1;

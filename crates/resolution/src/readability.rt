@@ -27,13 +27,13 @@ use records::descriptor::is_transitive;
 use records::descriptor::name;
 use records::descriptor::required;
 use records::finder::Found;
-use records::index::find_in;
 use records::name::after_name;
 use records::name::name_of;
 use records::record::Cursor;
 use records::record::Kind;
 use records::record::Next;
 use records::set::block;
+use records::sorted::find_in;
 
 // The members that a block requires, and of these the ones that it requires transitively.
 pub struct Required {
@@ -46,7 +46,7 @@ fn member(
     set: &[u8],
     starts: &[usize],
     count: usize,
-    index: &[u16],
+    index: &[usize],
     members: Row,
     name: &[u8],
 ) -> Found
@@ -75,21 +75,43 @@ fn with_found(row: Row, found: Found) -> Row
     }
 }
 
+// The member of a requirement's name. java.base is required by nearly every module, and is looked up already.
+fn required_member(
+    set: &[u8],
+    starts: &[usize],
+    count: usize,
+    index: &[usize],
+    members: Row,
+    base: Found,
+    name: &[u8],
+) -> Found
+    requires { ⌜ Lookup (now set) (now starts) count (now index) ⌝ }
+    requires { ⌜ base ≡ memberOf (members .words) (findName (tableNames (now set) (now starts) count) javaBase 0) ⌝ }
+    ensures { λ r. ⌜ r ≡ memberOf (members .words) (findName (tableNames (now (set .entry)) (now (starts .entry)) count) (now (name .entry)) 0) ⌝ }
+{
+    if same(name, b"java.base") {
+        return base;
+    }
+    member(set, starts, count, index, members, name)
+}
+
 // The rows with the member of one requirement more. It is looked up once for both.
 fn with_required(
     set: &[u8],
     starts: &[usize],
     count: usize,
-    index: &[u16],
+    index: &[usize],
     members: Row,
+    base: Found,
     body: &[u8],
     rows: Required,
 ) -> Required
     requires { ⌜ Lookup (now set) (now starts) count (now index) ⌝ }
+    requires { ⌜ base ≡ memberOf (members .words) (findName (tableNames (now set) (now starts) count) javaBase 0) ⌝ }
     ensures { λ r. ⌜ WithMore (rows .all .words) (isRequired (tableNames (now (set .entry)) (now (starts .entry)) count) (members .words) false (requirementOf (now (body .entry)))) (r .all .words) ⌝ }
     ensures { λ r. ⌜ WithMore (rows .transitive .words) (isRequired (tableNames (now (set .entry)) (now (starts .entry)) count) (members .words) true (requirementOf (now (body .entry)))) (r .transitive .words) ⌝ }
 {
-    let found = member(set, starts, count, index, members, required(body));
+    let found = required_member(set, starts, count, index, members, base, required(body));
     let all = with_found(rows.all, found);
     let transitive = rows.transitive;
     if is_transitive(body) {
@@ -106,11 +128,13 @@ fn required_members(
     set: &[u8],
     starts: &[usize],
     count: usize,
-    index: &[u16],
+    index: &[usize],
     members: Row,
+    base: Found,
     block: &[u8],
 ) -> Required
     requires { ⌜ Lookup (now set) (now starts) count (now index) ⌝ }
+    requires { ⌜ base ≡ memberOf (members .words) (findName (tableNames (now set) (now starts) count) javaBase 0) ⌝ }
     ensures { λ r. ⌜ Holding (r .all .words) (requiredAt (tableNames (now (set .entry)) (now (starts .entry)) count) (members .words) false (descriptorOf (now (block .entry)) .requires)) ⌝ }
     ensures { λ r. ⌜ Holding (r .transitive .words) (requiredAt (tableNames (now (set .entry)) (now (starts .entry)) count) (members .words) true (descriptorOf (now (block .entry)) .requires)) ⌝ }
 {
@@ -124,7 +148,7 @@ fn required_members(
             Next::Body { start, len, next } => {
                 let body = part(block, start, len);
                 c = next;
-                rows = with_required(set, starts, count, index, members, body, rows);
+                rows = with_required(set, starts, count, index, members, base, body, rows);
             }
             Next::Nothing => {
                 return rows;
@@ -139,7 +163,7 @@ fn direct_rows(
     set: &[u8],
     starts: &[usize],
     count: usize,
-    index: &[u16],
+    index: &[usize],
     members: Row,
     base: Found,
     p: usize,
@@ -151,7 +175,7 @@ fn direct_rows(
 {
     if has(members, p) {
         let b = block(set, starts, p);
-        let rows = required_members(set, starts, count, index, members, b);
+        let rows = required_members(set, starts, count, index, members, base, b);
         if same(name(b), b"java.base") {
             return rows;
         }
@@ -240,7 +264,7 @@ fn set_direct(
     set: &[u8],
     starts: &[usize],
     count: usize,
-    index: &[u16],
+    index: &[usize],
     members: Row,
     graph: &mut [u64],
     reads: &mut [u64],
@@ -320,7 +344,7 @@ fn add_read(
     set: &[u8],
     starts: &[usize],
     count: usize,
-    index: &[u16],
+    index: &[usize],
     members: Row,
     body: &[u8],
     unnamed: Row,
@@ -343,7 +367,7 @@ fn add_reads(
     request: &[u8],
     starts: &[usize],
     count: usize,
-    index: &[u16],
+    index: &[usize],
     members: Row,
     reads: &mut [u64],
 ) -> Row
@@ -373,7 +397,7 @@ pub fn read_edges(
     request: &[u8],
     starts: &[usize],
     count: usize,
-    index: &[u16],
+    index: &[usize],
     members: Row,
     reads: &mut [u64],
 ) -> Row

@@ -29,7 +29,7 @@ fn front(
     request: &[u8],
     starts: &[usize],
     phase: Phase,
-    index: &[u16],
+    index: &[usize],
     names: &[usize],
     order: &mut [usize],
 ) -> Queue
@@ -68,7 +68,7 @@ fn resolve_roots(
     request: &[u8],
     starts: &[usize],
     phase: Phase,
-    index: &[u16],
+    index: &[usize],
     names: &[usize],
     order: &mut [usize],
 ) -> Queue
@@ -101,7 +101,7 @@ fn resolve_first(
     request: &[u8],
     starts: &[usize],
     phase: Phase,
-    index: &[u16],
+    index: &[usize],
     names: &[usize],
     order: &mut [usize],
     packages: &mut [u64],
@@ -141,7 +141,7 @@ fn resolve_from(
     request: &[u8],
     starts: &[usize],
     phase: Phase,
-    index: &[u16],
+    index: &[usize],
     names: &[usize],
 ) -> Ordered
     requires { ⌜ Tables (now set) (now request) (now starts) (now starts) phase (now index) (now names) (now names) ⌝ }
@@ -193,7 +193,7 @@ fn resolve_listed(
     starts: &[usize],
     count: usize,
     permitted: Row,
-    index: &[u16],
+    index: &[usize],
     table: &mut [usize],
 ) -> Ordered
     requires { ⌜ Lookup (now set) (now starts) count (now index) ⌝ }
@@ -222,7 +222,7 @@ fn resolve_limited(
     starts: &[usize],
     count: usize,
     permitted: Row,
-    index: &[u16],
+    index: &[usize],
 ) -> Ordered
     requires { ⌜ Lookup (now set) (now starts) count (now index) ⌝ }
     requires { ⌜ length (now request) ≤ 65535 ⌝ }
@@ -240,7 +240,7 @@ pub fn resolve_order(
     starts: &[usize],
     count: usize,
     permitted: Row,
-    index: &[u16],
+    index: &[usize],
 ) -> Ordered
     requires { ⌜ Lookup (now set) (now starts) count (now index) ⌝ }
     requires { ⌜ length (now request) ≤ 65535 ⌝ }

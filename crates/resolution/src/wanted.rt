@@ -18,11 +18,11 @@ use records::descriptor::required;
 use records::error::Input;
 use records::error::ModuleError;
 use records::finder::Found;
-use records::index::find_in;
 use records::name::name_of;
 use records::order::contains;
 use records::record::Kind;
 use records::request::is_permitted;
+use records::sorted::find_in;
 
 // Whether the request permits an absent name. Where that is known, `names` tells the names of its LM in order.
 fn permits(request: &[u8], phase: Phase, names: &[usize], name: &[u8]) -> bool
@@ -106,7 +106,7 @@ pub fn want(
     starts: &[usize],
     old: &[usize],
     phase: Phase,
-    index: &[u16],
+    index: &[usize],
     names: &[usize],
     needed: &[usize],
     name: &[u8],
@@ -152,7 +152,7 @@ pub fn want_record(
     starts: &[usize],
     old: &[usize],
     phase: Phase,
-    index: &[u16],
+    index: &[usize],
     names: &[usize],
     needed: &[usize],
     input: Input,

@@ -1,16 +1,19 @@
 // Messages on standard error: which modules of a set are hidden, and by which place. Places are numbered from 1.
 ghost use Prim.Native.Nat.{_≤_};
-ghost use lib.ListN.{length};
+ghost use lib.ListN.{length, take};
+ghost use mathlib.Core.List.{map};
+ghost use Rattle.records.specs.Set.{nameAt};
+ghost use Rattle.records.specs.Sorted.{Indexed};
 use libc::STDERR_FILENO;
 use records::finder::Found;
-use records::finder::find;
 use records::finder::name_at;
 use records::record::Cursor;
 use records::record::Kind;
 use records::record::Next;
 use records::set::SetAnswer;
-use records::set::check_set;
+use records::set::check_set_with;
 use records::set::entry;
+use records::sorted::find_in;
 
 // The place that has the byte at `at`: one more for each PL before it but one at the front.
 fn place_of(set: &[u8], at: usize) -> usize
@@ -61,13 +64,16 @@ fn message(set: &[u8], at: usize, first: usize)
 }
 
 // A message for each of the n modules whose name an earlier one has.
-fn list_hidden(set: &[u8], starts: &[usize], n: usize)
+fn list_hidden(set: &[u8], starts: &[usize], n: usize, index: &[usize])
     requires { ⌜ length (now set) ≤ 65536 ⌝ }
+    requires { ⌜ n ≤ 256 ⌝ }
+    requires { ⌜ n ≤ length (now starts) ⌝ }
+    requires { ⌜ Indexed (map (nameAt (now set)) (take n (now starts))) (now index) ⌝ }
 {
     let mut i: usize = 0;
     while i < n {
         let at = entry(starts, i);
-        match find(set, starts, n, name_at(set, at)) {
+        match find_in(set, starts, n, index, name_at(set, at)) {
             Found::At(j) => {
                 if j < i {
                     message(set, at, entry(starts, j));
@@ -83,13 +89,14 @@ fn list_hidden(set: &[u8], starts: &[usize], n: usize)
 pub fn tell_hidden(set: &[u8])
     requires { ⌜ length (now set) ≤ 65536 ⌝ }
 {
-    let checked = check_set(set);
+    let mut index = [0usize; 1026];
+    let checked = check_set_with(set, &mut index);
     let answer = checked.answer;
     match answer {
         SetAnswer::Refused(_) => {}
         SetAnswer::Modules(n) => {
             let starts = checked.starts;
-            list_hidden(set, &starts, n);
+            list_hidden(set, &starts, n, &index);
         }
     }
 }

@@ -13,6 +13,7 @@ use Rattle.records.specs.Descriptor.{Descriptor, descriptorOf, entryOf, reaches
 use Rattle.records.specs.Request.{Request, requestOf, grantOf, hasGrant, checkInputs}
 use Rattle.records.specs.Set.{nameAt, blockAt, modules, checkSet}
 use Rattle.records.specs.Finder.{findName, findModule}
+use Rattle.records.specs.Sorted.{IndexedSet}
 use Rattle.records.specs.declared.error.ModuleError.{ModuleError}
 use Rattle.records.specs.declared.finder.Found.{Found}
 use Rattle.records.specs.declared.finder.Found.the-variants.{At, Nothing}
@@ -23,6 +24,7 @@ use Rattle.records.specs.declared.set.SetAnswer.the-variants.{Modules}
 use Rattle.records.specs.declared.set.SetAnswer.the-variants as Set
 use Rattle.records.proofs.finder.Modules.{find-is}
 use Rattle.records.proofs.set.Blocks.{GoodSet, good-set}
+use Rattle.records.proofs.sorted.Index.{indexed-none}
 use Rattle.resolution.specs.Lists.{Name}
 use Rattle.resolution.specs.Row.{holds}
 use Rattle.resolution.specs.Graph.{edge, Successors}
@@ -31,7 +33,8 @@ use Rattle.resolution.specs.Observed.{hasMember, hasEdge}
 use Rattle.resolution.specs.declared.configuration.Configuration.{Configuration}
 use Rattle.resolution.proofs.Positions.{Located, located-visible}
 use Rattle.resolution.proofs.Observed.{member-bit, edge-bit, unnamed-bit}
-use Rattle.resolution.proofs.Sets.{set-length, set-located, module-block}
+use Rattle.resolution.specs.Lookup.{Lookup}
+use Rattle.resolution.proofs.Sets.{set-length, set-located, module-block, set-lookup, lookup-few, lookup-room, lookup-index}
 use Rattle.records.proofs.request.Taken.{inputs-taken}
 use Rattle.records.proofs.Logic.{by}
 use Rattle.access.specs.Access.{passes, isMember, edgeTo, isReader, readsName, resolvedModule, isReflection, entriesOf, grantsOf, denied, pickResult, grants, granted, namedVerdict, unnamedGranted, unnamedVerdict, verdict, answered, checkAccess}
@@ -85,9 +88,9 @@ unnamed-no b a u e y = sym (rw (← e, y))
 
 pub ruleset is-unnamed-laws = (unnamed-yes, unnamed-no)
 
-pub ruleset member-laws = (member-held, member-other, member-none)
+pub ruleset member-laws = (lookup-few, lookup-room, lookup-index, member-held, member-other, member-none)
 
-pub ruleset leads-laws = (leads-held, leads-none, leads-unnamed)
+pub ruleset leads-laws = (lookup-few, lookup-room, lookup-index, leads-held, leads-none, leads-unnamed)
 
 -- ---- a read edge
 
@@ -323,7 +326,10 @@ module _ (s q : List ℕ) (f : Bool) (c : Configuration) (x y p : Name) (k : Che
 pub answer-set : (s q : List ℕ) (k : Checked) → k ≡ checkInputs s q → (n : ℕ) → k .answer ≡ Modules n → checkSet s ≡ record { answer = Modules n; starts = k .starts }
 answer-set s q k ek n h = inputs-taken s q n k ek h
 
-pub ruleset answer-laws = (answer-refused, answer-verdict, answer-set)
+pub answer-lookup : (s q : List ℕ) (k : Checked) (index : List ℕ) → k ≡ checkInputs s q → (n : ℕ) → k .answer ≡ Modules n → IndexedSet s k index → Lookup s (k .starts) n index
+answer-lookup s q k index ek n h x = set-lookup s n (k .starts) (answer-set s q k ek n h) index (x .names n h)
+
+pub ruleset answer-laws = (indexed-none, answer-refused, answer-verdict, answer-set, answer-lookup)
 
 -- ---- whether a module can read another
 
@@ -346,4 +352,7 @@ module _ (s : List ℕ) (c : Configuration) (x y : Name) (k : Checked) (ek : k �
 pub can-set : (s : List ℕ) (k : Checked) → k ≡ checkSet s → (n : ℕ) → k .answer ≡ Modules n → checkSet s ≡ record { answer = Modules n; starts = k .starts }
 can-set s k ek n h = sym ek ∙ ap (λ (z : SetAnswer). record { answer = z; starts = k .starts }) h
 
-pub ruleset can-laws = (can-refused, can-same, can-edge, can-set)
+pub can-lookup : (s : List ℕ) (k : Checked) (index : List ℕ) → k ≡ checkSet s → (n : ℕ) → k .answer ≡ Modules n → IndexedSet s k index → Lookup s (k .starts) n index
+can-lookup s k index ek n h x = set-lookup s n (k .starts) (can-set s k ek n h) index (x .names n h)
+
+pub ruleset can-laws = (indexed-none, can-refused, can-same, can-edge, can-set, can-lookup)

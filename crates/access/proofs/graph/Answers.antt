@@ -3,7 +3,7 @@ use mathlib.Core.Path.{_≡_, refl, sym, ap, _∙_, subst}
 use mathlib.Core.Bool.{Bool, true, false, _&&_, _||_, and-false}
 use mathlib.Core.List.{List, [], _∷_, map}
 use mathlib.Core.Logic.{inl, inr, ⊎-elim}
-use Prim.Native.Nat.{ℕ, _+_, _-_, _≤_, _<_}
+use Prim.Native.Nat.{ℕ, _-_, _≤_, _<_}
 use native.Mathlib.Omega.{arith}
 use mir.Syntax.{w64}
 use mir.Val.{Fits}
@@ -13,7 +13,7 @@ use borrow.Author.Tests.{lt-ltb}
 use Rattle.records.specs.Bytes.{sameBytes}
 use Rattle.records.specs.Name.{allUnnamed}
 use Rattle.records.specs.Set.{nameAt, modules, checkSet}
-use Rattle.records.specs.Finder.{findName, findModule, isFirst}
+use Rattle.records.specs.Finder.{findName, findModule}
 use Rattle.records.specs.declared.error.ModuleError.{ModuleError}
 use Rattle.records.specs.declared.finder.Found.{Found}
 use Rattle.records.specs.declared.finder.Found.the-variants.{At, Nothing}
@@ -23,28 +23,27 @@ use Rattle.records.specs.declared.set.SetAnswer.the-variants.{Modules}
 use Rattle.records.specs.declared.set.SetAnswer.the-variants as Set
 use Rattle.records.proofs.Logic.{by, clash, true≠false, and-left}
 use Rattle.records.proofs.finder.Modules.{find-is}
-use Rattle.records.proofs.index.Laws.{indexed-none}
 use Rattle.records.proofs.set.Blocks.{GoodSet, good-set}
+use Rattle.records.proofs.sorted.Index.{indexed-none}
 use Rattle.resolution.specs.Lists.{Name}
 use Rattle.resolution.specs.Positions.{isVisible}
 use Rattle.resolution.specs.Observed.{hasMember, hasEdge, hasUnnamedEdge}
-use Rattle.resolution.specs.Row.{holds, Empty, Added}
+use Rattle.resolution.specs.Row.{holds, Empty}
 use Rattle.resolution.specs.Graph.{edge}
 use Rattle.resolution.specs.Readability.{Holding}
 use Rattle.resolution.specs.Resolve.{words}
 use Rattle.resolution.specs.declared.configuration.Configuration.{Configuration}
 use Rattle.resolution.proofs.Observed.{member-bit}
 use Rattle.resolution.proofs.Positions.{visible-in}
-use Rattle.resolution.proofs.Sets.{set-length, starts-room, visible-start, set-lookup, lookup-few, lookup-room, lookup-index}
+use Rattle.resolution.proofs.Sets.{set-length, lookup-few, lookup-room, lookup-index}
 use Rattle.access.specs.Access.{passes, edgeTo, isReader}
 use Rattle.access.specs.Members.{memberIn}
 use Rattle.access.specs.ReadGraph.{readsAt, readsUnnamedAt, Leads, step, then, LeadsToOne, refusedGraph, readersAnswered, readersOf, LeadsToUnnamed, LedFrom, TransitiveReads}
 use Rattle.access.specs.GraphSteps.{Told, readerAt, readerBelow, heldBoth, countsAt, edgeCounts, unnamedCounts, Masked, Onward}
 use Rattle.access.specs.declared.graph.GraphOutcome.the-variants.{Answered, Refused}
 use Rattle.access.specs.declared.graph.GraphAnswer.{GraphAnswer}
-use Rattle.access.proofs.access.Laws.{held-of, not-held-at, found-visible, edge-to, can-set}
+use Rattle.access.proofs.access.Laws.{held-of, not-held-at, found-visible, edge-to, can-set, can-lookup}
 use Rattle.resolution.proofs.Words.{words-are}
-use Rattle.access.proofs.graph.Rows.{PassedAt, passed-start, passed-end, passed-not, passed-more}
 
 -- ---- the answers
 
@@ -120,30 +119,6 @@ module _ (s : List ℕ) (n : ℕ) (t : List ℕ) (e : checkSet s ≡ record { an
   pub visible-few : n ≤ 256
   visible-few = good-set s n t e .few
 
-  module _ (row : List ℕ) where
-    pub seen-start : Empty row → PassedAt (isVisible (modules s)) n row 0
-    seen-start h = passed-start (isVisible (modules s)) n row h
-
-    module _ (k : ℕ) (h : PassedAt (isVisible (modules s)) n row k) where
-      pub seen-end : n ≤ k → Holding row (isVisible (modules s))
-      seen-end l = record { each = λ j. passed-end (isVisible (modules s)) n row k h l j ∙ below j }
-        where
-          below : (j : ℕ) → ltb j n && isVisible (modules s) j ≡ isVisible (modules s) j
-          below j = by (isVisible (modules s) j)
-              (λ y. rw (y, lt-ltb j n (omega (arith, visible-in (modules s) j y, set-length s n t (good-set s n t e)))))
-              (λ y. rw y (and-false (ltb j n)))
-
-      module _ (l : k < n) (r : Bool) (er : r ≡ isFirst (map (nameAt s) (take n t)) (nameAt s (getD t k 0)) k) where
-        pub seen-not : r ≡ false → PassedAt (isVisible (modules s)) n row (k + 1)
-        seen-not y = passed-not (isVisible (modules s)) n row k h l (visible-start s n t e k l ∙ sym er ∙ y)
-
-        pub seen-more : (after : List ℕ) → r ≡ true → Added row k after → PassedAt (isVisible (modules s)) n after (k + 1)
-        seen-more after y a = passed-more (isVisible (modules s)) n row k h visible-few after l (visible-start s n t e k l ∙ sym er ∙ y) a
-
-pub ruleset seen-laws = (seen-start, seen-end, seen-not, seen-more, lookup-few, lookup-room, lookup-index)
-
-pub ruleset visible-laws = (indexed-none, visible-few, starts-room, set-lookup)
-
 module _ (s : List ℕ) (n : ℕ) (t : List ℕ) (e : checkSet s ≡ record { answer = Modules n; starts = t }) where
   pub members-are : (ws seen own : List ℕ) → Holding seen (isVisible (modules s)) → Holding own (heldBoth n seen ws) → Holding own (countsAt (isVisible (modules s)) ws)
   members-are ws seen own hs ho = record { each = λ k. own-is s n t (good-set s n t e) ws seen own hs ho k }
@@ -151,9 +126,6 @@ module _ (s : List ℕ) (n : ℕ) (t : List ℕ) (e : checkSet s ≡ record { an
 pub ruleset visible-members-laws = (visible-few, members-are)
 
 -- ---- the set is checked first
-
-pub few : (s : List ℕ) (k : Checked) → k ≡ checkSet s → (n : ℕ) → k .answer ≡ Modules n → n ≤ 256
-few s k ek n h = good-set s n (k .starts) (can-set s k ek n h) .few
 
 module _ (s : List ℕ) (c : Configuration) (y : Name) (k : Checked) (ek : k ≡ checkSet s) where
   answer-is : (a : SetAnswer) → k .answer ≡ a → checkSet s .answer ≡ a
@@ -264,6 +236,32 @@ module _ (s : List ℕ) (c : Configuration) (y : Name) (k : Checked) (ek : k ≡
         no-path : (a j : ℕ) → findModule s y ≡ At a → Leads (readsAt s c) a j → ⊥
         no-path a j e f = no-counts a e (leads-counts s c a j f)
 
-pub ruleset readers-of-laws = (few, can-set, readers-refused, readers-told)
+pub ruleset checked-laws = (indexed-none, can-set, can-lookup, readers-refused, reads-refused)
 
-pub ruleset transitive-laws = (few, can-set, reads-refused, reads-masked, reads-counts, reads-told, reads-none)
+-- and of a set that the check takes
+
+module _ (s : List ℕ) (n : ℕ) (t : List ℕ) (e : checkSet s ≡ record { answer = Modules n; starts = t }) (c : Configuration) (y : Name) where
+  abbrev taken : Checked
+  taken = record { answer = Modules n; starts = t }
+
+  pub readers-in : (f : Found) (asked : Bool) (own row : List ℕ) (r : GraphAnswer) → f ≡ findName (map (nameAt s) (take n t)) y 0 → asked ≡ sameBytes y allUnnamed
+      → Holding own (countsAt (isVisible (modules s)) (c .members)) → Holding row (readerBelow n own (c .reads) (c .unnamed) f asked) → Told row false r → r ≡ readersOf s c y
+  readers-in f asked own row r ef ea ho w x = readers-told s c y taken (sym e) n f asked own row r refl ef ea ho w x
+
+  module _ (m : Found) (em : m ≡ memberIn s (c .members) y) where
+    pub in-none : (row : List ℕ) (r : GraphAnswer) → m ≡ Nothing → Empty row → Told row false r → TransitiveReads s c y r
+    in-none row r en w x = reads-none s c y taken (sym e) n refl m em row r en w x
+
+    module _ (seen own : List ℕ) (hs : Holding seen (isVisible (modules s))) (ho : Holding own (heldBoth n seen (c .members))) where
+      pub in-masked : Masked n seen own
+      in-masked = reads-masked s c y taken (sym e) n refl m em seen own hs ho
+
+      pub in-counts : (i : ℕ) → m ≡ At i → countsAt (holds seen) own i ≡ true
+      in-counts i ei = reads-counts s c y taken (sym e) n refl m em seen own hs ho i ei
+
+      pub in-told : (i : ℕ) (r : GraphAnswer) → m ≡ At i → Onward (holds seen) own (c .reads) (c .unnamed) i r → TransitiveReads s c y r
+      in-told i r ei o = reads-told s c y taken (sym e) n refl m em seen own hs ho i r ei o
+
+pub ruleset readers-in-laws = (visible-few, lookup-few, lookup-room, lookup-index, readers-in)
+
+pub ruleset reads-in-laws = (visible-few, in-none, in-masked, in-counts, in-told)

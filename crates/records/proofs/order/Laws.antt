@@ -134,7 +134,7 @@ pub ruleset stands-laws = (stands-is, stands-not)
 
 -- ---- the shift
 
-length-shifted : (t : List ℕ) (from count : ℕ) → from ≤ count → count < length t → length (shifted t from count) ≡ length t
+pub length-shifted : (t : List ℕ) (from count : ℕ) → from ≤ count → count < length t → length (shifted t from count) ≡ length t
 unfolding shifted
 length-shifted t from count l h =
     let a : length (take (from + 1) t) ≡ from + 1 = length-take-le (from + 1) t (omega arith) in
@@ -237,7 +237,7 @@ module _ (t : List ℕ) (at count entry : ℕ) (l : at ≤ count) (h : count < l
       let lq : length (take (count - at) (drop at t)) ≡ count - at = length-take-le (count - at) (drop at t) (rw length-drop (omega arith)) in
       length-append (take at t) (entry ∷ take (count - at) (drop at t)) ∙ omega arith
 
-  set-take : take (count + 1) (set (shifted t at count) at entry) ≡ take at t ++ (entry ∷ take (count - at) (drop at t))
+  pub set-take : take (count + 1) (set (shifted t at count) at entry) ≡ take at t ++ (entry ∷ take (count - at) (drop at t))
   set-take = rw shifted-set (take-at (take at t ++ (entry ∷ take (count - at) (drop at t))) (drop (count + 1) t) (count + 1) set-long)
 
   -- what stands behind stays

@@ -20,6 +20,7 @@ use Rattle.records.specs.declared.error.ModuleError.{ModuleError}
 use Rattle.records.specs.declared.error.ModuleError.the-variants.{Malformed, TooLarge}
 use Rattle.records.specs.Set.{pickChecked, refused, checkSet}
 use Rattle.records.specs.declared.set.Checked.{Checked}
+use Rattle.records.proofs.set.Laws.{check-none}
 use Rattle.records.specs.declared.set.SetAnswer.the-variants.{Modules}
 use Rattle.records.specs.declared.set.SetAnswer.the-variants as Set
 use Rattle.records.specs.declared.record.Cursor.{Cursor}
@@ -330,4 +331,4 @@ module _ (s q : List ℕ) where
       unfolding thenRequest
       inputs-refused e r g f = f ∙ sym (inputs-are s q l ∙ rw (w, ← ea, g))
 
-pub ruleset inputs-laws = (inputs-long, inputs-set, inputs-good, inputs-refused)
+pub ruleset inputs-laws = (inputs-long, inputs-set, inputs-good, inputs-refused, check-none)

@@ -2,7 +2,7 @@
 -- enough.
 use Prim.Native.Nat.{ℕ, _+_, _≤_, _<_}
 use mathlib.Core.Path.{_≡_, refl, sym, _∙_, ap}
-use mathlib.Core.List.{List, [], _∷_, _++_, map, flatten, append-nil, append-assoc, List·Memᴰ, List·Memᴰ·head, List·Memᴰ·tail, List·Memᴰ·not-nil, List·Memᴰ·cases-cons}
+use mathlib.Core.List.{List, [], _∷_, _++_, map, map-append, flatten, append-nil, append-assoc, List·Memᴰ, List·Memᴰ·head, List·Memᴰ·tail, List·Memᴰ·not-nil, List·Memᴰ·cases-cons}
 use mathlib.Core.Logic.{⊎-elim}
 use mathlib.Core.Bool.{Bool, true, false, _&&_, not}
 use native.Mathlib.Omega.{arith}
@@ -19,7 +19,6 @@ use Rattle.records.specs.declared.record.Kind.the-variants.{Module, Main
 use Rattle.records.specs.declared.set.SetAnswer.the-variants.{Modules}
 use Rattle.records.proofs.Logic.{and-left, and-right, or-left, or-right}
 use Rattle.records.proofs.bytes.Laws.{same-refl}
-use Rattle.records.proofs.index.Laws.{map-last}
 use Rattle.records.proofs.name.Lists.{not-same, mem-not-last}
 use Rattle.records.proofs.record.Laws.{IsRecord, record-first, first-whole, first-front}
 use Rattle.records.proofs.set.Blocks.{block-name}
@@ -230,7 +229,7 @@ joined-pass s (b ∷ bs) p at h d u a e l =
     unlike : Unlike s (w .to .here) bs
     unlike n k =
         let other : sameBytes name n ≡ false = not-same (namesIn bs) name n (not-true (memName name (namesIn bs)) (and-left (not (memName name (namesIn bs))) (distinct (namesIn bs)) once)) k in
-        rw (w .here, map-last s (p .here) at, named-at) (mem-not-last n (map (nameAt s) (p .here)) name (a n (or-right (sameBytes (descriptorOf b .name) n) (memName n (namesIn bs)) k)) other)
+        rw (w .here, map-append (nameAt s) (p .here) (at ∷ []), named-at) (mem-not-last n (map (nameAt s) (p .here)) name (a n (or-right (sameBytes (descriptorOf b .name) n) (memName n (namesIn bs)) k)) other)
 
     few : length (w .to .starts) + length bs ≤ 256
     few = rw (w .starts, length-append) (omega (arith, l))

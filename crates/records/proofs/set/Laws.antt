@@ -1,12 +1,12 @@
 -- What each return of the set's check shows.
 use Prim.Native.Nat.{ℕ, suc, _+_, _-_, _≤_, _<_}
 use mathlib.Core.Path.{_≡_, refl, sym, _∙_, ap}
-use mathlib.Core.List.{List, [], _∷_, _++_, map}
+use mathlib.Core.List.{List, [], _∷_, _++_, map, map-append}
 use mathlib.Core.Bool.{Bool, true, false, _&&_, _||_}
 use native.Mathlib.Omega.{arith}
 use native.Mathlib.Numerals.{add-one}
 use lib.ListN.{length, getD, take, drop, set, replicate, length-set, length-drop, List·getD-eq-default}
-use lib.Seq.{length-take-le, take-suc-set, take-set-le, drop-set-add, set-at, append-snoc}
+use lib.Seq.{length-take-le, take-suc-set, take-set-le, take-add, drop-drop, drop-set-add, set-at, append-snoc}
 use lib.Dec.{ltb, leb}
 use borrow.Author.Tests.{eq-eqb, ne-eqb, lt-ltb, le-ltb, le-leb, lt-leb, leb-false}
 use types.Run.{OneOf, miss}
@@ -16,8 +16,8 @@ use Rattle.records.specs.Name.{allUnnamed, nameOf, memName}
 use Rattle.records.specs.Record.{records, stepAt, setKind, isBody}
 use Rattle.records.specs.Descriptor.{moduleName}
 use Rattle.records.specs.Finder.{findName}
-use Rattle.records.specs.Index.{Indexed}
-use Rattle.records.specs.Set.{Passed, hereOf, passedOf, nameAt, isPlaced, admitAt, enterAt, placesAt, passAt, judgeAt, pickVerdict, tableOf, refused, accepted, goOn, checkFrom, checkSet, blockAt}
+use Rattle.records.specs.Set.{Passed, hereOf, passedOf, nameAt, isPlaced, admitAt, enterAt, placesAt, passAt, judgeAt, pickVerdict, tableOf, refused, accepted, goOn, checkFrom, checkSet, blockAt, bodyAt}
+use Rattle.records.specs.Sorted.{Indexed, Added, leaves, Kept, IndexedSet}
 use Rattle.records.specs.declared.record.Cursor.{Cursor}
 use Rattle.records.specs.declared.record.Step.{Step}
 use Rattle.records.specs.declared.record.Step.the-variants.{Record, Bad, End}
@@ -33,12 +33,11 @@ use Rattle.records.specs.declared.set.Verdict.the-variants.{Stop, Start,
 use Rattle.records.specs.declared.set.SetAnswer.the-variants.{Modules, Refused}
 use Rattle.records.specs.declared.set.Checked.{Checked}
 use Rattle.records.specs.declared.set.Seen.{Seen}
-use Rattle.records.proofs.Logic.{clash}
+use Rattle.records.proofs.Logic.{clash, true≠false, neither-right}
 use Rattle.records.proofs.bytes.Laws.{tail-none, tail-some}
 use Rattle.records.proofs.record.Kind.{the-type}
 use Rattle.records.proofs.record.Laws.{Stepped, stepped, stepped-bad, stepped-end, stepped-in, records-next, front-mark, front-body, front-length, records-none, records-end}
 use Rattle.records.proofs.finder.Laws.{found-in, found-not}
-use Rattle.records.proofs.index.Laws.{indexed-none}
 
 -- ---- one record
 
@@ -90,18 +89,37 @@ module _ (t : List ℕ) (n : Seen) (parted : n .first ≤ n .count) (few : n .co
   here-long : length (hereOf t n) ≡ n .count - n .first
   here-long = length-take-le (n .count - n .first) (drop (n .first) t) here-in
 
--- one module more of the present place in the index
-module _ (s t index : List ℕ) (n : Seen) (h : List ℕ) (eh : h ≡ drop (n .first) t) where
-  pub here-room : n .first ≤ n .count → n .count < length t → n .count - n .first < length h
-  here-room p l = rw (eh, length-drop) (omega arith)
+-- a name of none of the modules is none of those in the present place
+mem-back : (x : List ℕ) (a b : List (List ℕ)) → memName x (a ++ b) ≡ false → memName x b ≡ false
+unfolding memName
+mem-back x [] b e = e
+mem-back x (m ∷ a) b e = mem-back x a b (neither-right (sameBytes m x) (memName x (a ++ b)) e)
 
-  pub here-by : Indexed (map (nameAt s) (hereOf t n)) index → Indexed (map (nameAt s) (take (n .count - n .first) h)) index
-  here-by x = rw eh x
+here-none : (s t : List ℕ) (n : Seen) (x : List ℕ) → n .first ≤ n .count → memName x (map (nameAt s) (take (n .count) t)) ≡ false → memName x (map (nameAt s) (hereOf t n)) ≡ false
+here-none s t n x p e =
+    let q : n .first + (n .count - n .first) ≡ n .count = omega arith in
+    let w : take (n .count) t ≡ take (n .first) t ++ hereOf t n = ap (λ (k : ℕ). take k t) (sym q) ∙ take-add (n .first) (n .count - n .first) t in
+    mem-back x (map (nameAt s) (take (n .first) t)) (map (nameAt s) (hereOf t n)) (rw (w, map-append (nameAt s) (take (n .first) t) (hereOf t n)) at e)
 
-  pub here-added : (index′ : List ℕ) → Indexed (map (nameAt s) (take (n .count - n .first + 1) h)) index′ → Indexed (map (nameAt s) (take (n .count - n .first + 1) (drop (n .first) t))) index′
-  here-added index′ x = rw (← eh) x
+-- what a verdict leaves of the index
 
-pub ruleset here-laws = (here-room, here-by, here-added)
+module _ (names : List (List ℕ)) (name index : List ℕ) where
+  pub kept-stop : (index′ : List ℕ) (e : ModuleError) → Kept names name index index′ (Stop e)
+  unfolding leaves
+  kept-stop index′ e = record { start = λ q. clash (cc); other = λ q. true≠false q refl }
+
+  pub kept-start : (index′ : List ℕ) → Indexed (names ++ (name ∷ [])) index′ → Kept names name index index′ Start
+  unfolding leaves
+  kept-start index′ x = record { start = λ q. x; other = λ q. true≠false q refl }
+
+  pub kept-main : Kept names name index index Main
+  kept-main = record { start = λ q. clash (cc); other = λ q. refl }
+
+  pub kept-enter : Kept names name index index Enter
+  kept-enter = record { start = λ q. clash (cc); other = λ q. refl }
+
+  pub kept-pass : Kept names name index index Pass
+  kept-pass = record { start = λ q. clash (cc); other = λ q. refl }
 
 module _ (s t : List ℕ) (n : Seen) (at : ℕ) (b : List ℕ) (few : n .count ≤ length t) where
   counted : length (take (n .count) t) ≡ n .count
@@ -110,13 +128,6 @@ module _ (s t : List ℕ) (n : Seen) (at : ℕ) (b : List ℕ) (few : n .count �
   pub admit-full : 256 ≤ n .count → Stop (TooLarge at) ≡ admitAt s (passedOf t n) at b
   unfolding admitAt
   admit-full l = rw (counted, le-leb 256 (n .count) l)
-
-  module _ (h : List ℕ) (eh : h ≡ drop (n .first) t) where
-    pub admit-in : n .first ≤ n .count → n .count - n .first ≤ length h
-    admit-in p = rw eh (here-in t n p few)
-
-    pub admit-by : (index : List ℕ) → Indexed (map (nameAt s) (hereOf t n)) index → Indexed (map (nameAt s) (take (n .count - n .first) h)) index
-    admit-by index x = rw eh x
 
   module _ (l : n .count < 256) (u m : List ℕ) (eu : u ≡ drop 3 b) (em : m ≡ nameOf u) (r : Bool) (er : r ≡ sameBytes m allUnnamed) where
     room : leb 256 (length (take (n .count) t)) ≡ false
@@ -130,6 +141,14 @@ module _ (s t : List ℕ) (n : Seen) (at : ℕ) (b : List ℕ) (few : n .count �
     unfolding admitAt
     admit-unnamed e = sym (rw (room, ← named, ← er, e))
 
+    -- a new name
+    pub admit-added : (p : n .first ≤ n .count) (index′ : List ℕ) (a : Bool) → r ≡ false → Added (map (nameAt s) (take (n .count) t)) m index′ a → a ≡ true → Start ≡ admitAt s (passedOf t n) at b
+    unfolding admitAt
+    admit-added p index′ a e x f = sym (rw (room, ← named, ← er, e, here-none s t n m p (x .new f)))
+
+    pub admit-kept : (index index′ : List ℕ) (a : Bool) → Added (map (nameAt s) (take (n .count) t)) m index′ a → Kept (map (nameAt s) (take (n .count) t)) (moduleName b) index index′ Start
+    admit-kept index index′ a x = kept-start (map (nameAt s) (take (n .count) t)) (moduleName b) index index′ (rw (← named) (x .indexed))
+
     module _ (e : r ≡ false) (h : List ℕ) (eh : h ≡ drop (n .first) t) (f : Found) (ef : f ≡ findName (map (nameAt s) (take (n .count - n .first) h)) m 0) where
       looked : (g : Found) → f ≡ g → findName (map (nameAt s) (hereOf t n)) m 0 ≡ g
       looked g eg = rw (← eh) (sym ef ∙ eg)
@@ -142,7 +161,7 @@ module _ (s t : List ℕ) (n : Seen) (at : ℕ) (b : List ℕ) (few : n .count �
       unfolding admitAt
       admit-new fn = sym (rw (room, ← named, ← er, e, found-not (map (nameAt s) (hereOf t n)) m 0 (looked Nothing fn)))
 
-pub ruleset admit-laws = (admit-full, admit-in, admit-by, admit-unnamed, admit-twice, admit-new)
+pub ruleset admit-laws = (admit-full, admit-unnamed, admit-added, admit-kept, admit-twice, admit-new, kept-stop)
 
 module _ (s : List ℕ) (p : Passed) (at : ℕ) (k : Kind) (b : List ℕ) where
   pub pass-module : (r : Verdict) → k ≡ Module → r ≡ admitAt s p at b → r ≡ passAt s p at k b
@@ -188,7 +207,7 @@ pass-other s p at AddOpens b h = refl
 pass-other s p at Static b h = refl
 pass-other s p at Other b h = refl
 
-pub ruleset pass-laws = (pass-module, pass-main, pass-ninth, pass-place, pass-other)
+pub ruleset pass-laws = (pass-module, pass-main, pass-ninth, pass-place, pass-other, kept-stop, kept-main, kept-enter, kept-pass)
 
 module _ (s t : List ℕ) (n : Seen) (at mark start len : ℕ) (parted : n .first ≤ n .count) (few : n .count ≤ length t)
     (k : Kind) (ek : k ≡ setKind mark) (b : List ℕ) (eb : b ≡ take len (drop start s)) (p : Bool) (ep : p ≡ isPlaced (n .count - n .first) (n .main) k) where
@@ -207,7 +226,11 @@ module _ (s t : List ℕ) (n : Seen) (at mark start len : ℕ) (parted : n .firs
   unfolding judgeAt
   judge-pass q r e eq f er = er ∙ sym (rw (← ek, ← eb, placed, e, ← eq, f))
 
-pub ruleset judge-laws = (judge-out, judge-bad, judge-pass)
+pub judge-kept : (s b : List ℕ) (start len : ℕ) (names : List (List ℕ)) (index index′ : List ℕ) (r : Verdict) → b ≡ take len (drop start s)
+    → Kept names (moduleName b) index index′ r → Kept names (moduleName (take len (drop start s))) index index′ r
+judge-kept s b start len names index index′ r e x = rw (← e) x
+
+pub ruleset judge-laws = (judge-out, judge-bad, judge-pass, judge-kept, kept-stop)
 
 -- ---- a block by the table
 
@@ -239,7 +262,7 @@ refused-is e = refl
 -- ---- the whole set
 
 -- the records before `at` pass; their modules start at the first `count` entries of the table, whose other entries are 0;
--- the index has the names of those in the present place; and those from `at` on decide
+-- the index has their names; and those from `at` on decide
 pub record CheckAt (s : List ℕ) (at : ℕ) (t index : List ℕ) (n : Seen) : Type 0 where
   pub within : at ≤ length s
   pub short : length s ≤ 65535
@@ -248,16 +271,16 @@ pub record CheckAt (s : List ℕ) (at : ℕ) (t index : List ℕ) (n : Seen) : T
   pub begun : n .places ≤ at + 1
   pub zeros : t ≡ take (n .count) t ++ replicate (257 - n .count) 0
   pub long : length t ≡ 257
-  pub by : Indexed (map (nameAt s) (hereOf t n)) index
+  pub by : Indexed (map (nameAt s) (take (n .count) t)) index
   pub left : checkSet s ≡ checkFrom s (passedOf t n) at (records (drop at s))
 
 pub check-long : (s : List ℕ) (r : Checked) → 65535 < length s → r ≡ refused (TooLarge 0) → r ≡ checkSet s
 unfolding checkSet
 check-long s r l e = e ∙ sym (rw (lt-ltb 65535 (length s) l))
 
-pub check-start : (s : List ℕ) → length s ≤ 65535 → CheckAt s 0 (replicate 257 0) (replicate 1280 0) (record { count = 0; first = 0; places = 1; main = false })
+pub check-start : (s index : List ℕ) → length s ≤ 65535 → Indexed [] index → CheckAt s 0 (replicate 257 0) index (record { count = 0; first = 0; places = 1; main = false })
 unfolding checkSet
-check-start s l = record {
+check-start s index l x = record {
   within = omega arith;
   short = l;
   few = omega arith;
@@ -265,7 +288,7 @@ check-start s l = record {
   begun = omega arith;
   zeros = refl;
   long = refl;
-  by = indexed-none;
+  by = x;
   left = rw (le-ltb 65535 (length s) l);
 }
 
@@ -337,13 +360,6 @@ module _ (t : List ℕ) (n : Seen) (parted : n .first ≤ n .count) (few : n .co
   here-more : take (n .count - n .first + 1) (drop (n .first) (set t (n .count) x)) ≡ hereOf t n ++ (x ∷ [])
   here-more = rw (later-set, add-one) (take-suc-set (drop (n .first) t) (n .count - n .first) x (rw length-drop (omega arith)))
 
-module _ (s : List ℕ) (at : ℕ) (t index : List ℕ) (n : Seen) (h : CheckAt s at t index n) (x : ℕ) where
-  pub check-add-in : n .count < length (set t (n .count) x)
-  check-add-in = rw (length-set t (n .count) x, h .long) (omega (arith, h .few))
-
-  pub check-add-by : Indexed (map (nameAt s) (take (n .count - n .first) (drop (n .first) (set t (n .count) x)))) index
-  check-add-by = rw (here-kept t n (h .parted) (omega (arith, h .few, h .long)) x) (h .by)
-
 module _ (s : List ℕ) (at : ℕ) (t index : List ℕ) (n : Seen) (h : CheckAt s at t index n) (step : Step) (es : step ≡ stepAt s at) where
   pub check-room : n .count ≤ length t
   check-room = omega (arith, h .few, h .long)
@@ -372,25 +388,31 @@ module _ (s : List ℕ) (at : ℕ) (t index : List ℕ) (n : Seen) (h : CheckAt 
     unfolding goOn
     check-stop e r f g = g ∙ sym (turn ∙ rw f)
 
-    pub check-main : v ≡ Main → CheckAt s (next .at) t index (record { count = n .count; first = n .first; places = n .places; main = true })
-    unfolding goOn
-    check-main f = record { within = inside; short = h .short; few = h .few; parted = h .parted; begun = omega (arith, more); zeros = h .zeros; long = h .long; by = h .by; left = turn ∙ rw f }
+    -- what the index is after it
+    module _ (index′ : List ℕ) (kp : Kept (map (nameAt s) (take (n .count) t)) (moduleName (take len (drop start s))) index index′ v) where
+      kept-by : leaves v ≡ true → Indexed (map (nameAt s) (take (n .count) t)) index′
+      kept-by e = rw (kp .other e) (h .by)
 
-    pub check-pass : v ≡ Pass → CheckAt s (next .at) t index n
-    unfolding goOn
-    check-pass f = record { within = inside; short = h .short; few = h .few; parted = h .parted; begun = omega (arith, more); zeros = h .zeros; long = h .long; by = h .by; left = turn ∙ rw f }
+      pub check-main : v ≡ Main → CheckAt s (next .at) t index′ (record { count = n .count; first = n .first; places = n .places; main = true })
+      unfolding goOn leaves
+      check-main f = record { within = inside; short = h .short; few = h .few; parted = h .parted; begun = omega (arith, more); zeros = h .zeros; long = h .long; by = kept-by (rw f); left = turn ∙ rw f }
+
+      pub check-pass : v ≡ Pass → CheckAt s (next .at) t index′ n
+      unfolding goOn leaves
+      check-pass f = record { within = inside; short = h .short; few = h .few; parted = h .parted; begun = omega (arith, more); zeros = h .zeros; long = h .long; by = kept-by (rw f); left = turn ∙ rw f }
 
     -- a place begins: it has no module yet
     nobody : n .count - n .count ≡ 0
     nobody = omega arith
 
-    pub check-first : v ≡ Enter → at ≤ 0 → CheckAt s (next .at) t (replicate 1280 0) (record { count = n .count; first = n .count; places = n .places; main = n .main })
-    unfolding goOn placesAt
-    check-first f l = record { within = inside; short = h .short; few = h .few; parted = omega arith; begun = omega (arith, more); zeros = h .zeros; long = h .long; by = rw nobody indexed-none; left = turn ∙ rw (f, le-ltb 0 at l, nobody) }
+    module _ (index′ : List ℕ) (kp : Kept (map (nameAt s) (take (n .count) t)) (moduleName (take len (drop start s))) index index′ v) where
+      pub check-first : v ≡ Enter → at ≤ 0 → CheckAt s (next .at) t index′ (record { count = n .count; first = n .count; places = n .places; main = n .main })
+      unfolding goOn placesAt leaves
+      check-first f l = record { within = inside; short = h .short; few = h .few; parted = omega arith; begun = omega (arith, more); zeros = h .zeros; long = h .long; by = kept-by index′ kp (rw f); left = turn ∙ rw (f, le-ltb 0 at l, nobody) }
 
-    pub check-enter : v ≡ Enter → 0 < at → CheckAt s (next .at) t (replicate 1280 0) (record { count = n .count; first = n .count; places = n .places + 1; main = n .main })
-    unfolding goOn placesAt
-    check-enter f l = record { within = inside; short = h .short; few = h .few; parted = omega arith; begun = more; zeros = h .zeros; long = h .long; by = rw nobody indexed-none; left = turn ∙ rw (f, lt-ltb 0 at l, nobody) }
+      pub check-enter : v ≡ Enter → 0 < at → CheckAt s (next .at) t index′ (record { count = n .count; first = n .count; places = n .places + 1; main = n .main })
+      unfolding goOn placesAt leaves
+      check-enter f l = record { within = inside; short = h .short; few = h .few; parted = omega arith; begun = more; zeros = h .zeros; long = h .long; by = kept-by index′ kp (rw f); left = turn ∙ rw (f, lt-ltb 0 at l, nobody) }
 
     pub check-few : v ≡ Start → n .count < 256
     check-few f =
@@ -400,10 +422,14 @@ module _ (s : List ℕ) (at : ℕ) (t index : List ℕ) (n : Seen) (h : CheckAt 
     pub check-start-fits : v ≡ Start → n .count + 1 ≤ 256
     check-start-fits f = omega (arith, check-few f)
 
-    pub check-module : (index′ : List ℕ) → v ≡ Start → Indexed (map (nameAt s) (take (n .count - n .first + 1) (drop (n .first) (set t (n .count) at)))) index′
+    name-here : nameAt s at ≡ moduleName (take len (drop start s))
+    unfolding nameAt bodyAt
+    name-here = rw (p .len-is, p .start-is, drop-drop 4 at s)
+
+    pub check-module : (index′ : List ℕ) → Kept (map (nameAt s) (take (n .count) t)) (moduleName (take len (drop start s))) index index′ v → v ≡ Start
         → CheckAt s (next .at) (set t (n .count) at) index′ (record { count = n .count + 1; first = n .first; places = n .places; main = false })
     unfolding goOn
-    check-module index′ f x =
+    check-module index′ kp f =
         let k : n .count < 256 = check-few f in
         let w : set t (n .count) at ≡ take (n .count) t ++ (at ∷ replicate (256 - n .count) 0) = table-more t (n .count) at (omega arith) (h .long) (h .zeros) in
         let q : take (n .count + 1) (set t (n .count) at) ≡ take (n .count) t ++ (at ∷ []) = rw add-one (take-suc-set t (n .count) at (omega (arith, h .long))) in
@@ -418,7 +444,7 @@ module _ (s : List ℕ) (at : ℕ) (t index : List ℕ) (n : Seen) (h : CheckAt 
           begun = omega (arith, more);
           zeros = rw (q, m) (w ∙ sym (append-snoc (take (n .count) t) at (replicate (256 - n .count) 0)));
           long = length-set t (n .count) at ∙ h .long;
-          by = rw d x;
+          by = rw (q, map-append (nameAt s) (take (n .count) t) (at ∷ []), name-here) (kp .start f);
           left = rw (q, d, e) (turn ∙ rw f);
         }
 
@@ -439,6 +465,13 @@ module _ (s : List ℕ) (at : ℕ) (t index : List ℕ) (n : Seen) (h : CheckAt 
         ne-eqb at (length s) (omega (arith, stepped-in s at step es e)),
       ))
 
+  pub check-by : Indexed (map (nameAt s) (take (n .count) t)) index
+  check-by = h .by
+
+  pub check-indexed : (x : ℕ) (index′ : List ℕ) → Indexed (map (nameAt s) (take (n .count) t)) index′
+      → IndexedSet s (record { answer = Modules (n .count); starts = set t (n .count) x }) index′
+  check-indexed x index′ y = record { names = λ c e. let q : n .count ≡ c = cc in rw (← q, take-set-le (n .count) t (n .count) x (omega arith)) y }
+
   pub check-end : step ≡ End → record { answer = Modules (n .count); starts = set t (n .count) (length s) } ≡ checkSet s
   unfolding checkFrom accepted tableOf
   check-end e =
@@ -453,4 +486,9 @@ module _ (s : List ℕ) (at : ℕ) (t index : List ℕ) (n : Seen) (h : CheckAt 
         w,
       ))
 
-pub ruleset check-laws = (check-long, check-start, check-room, check-fits, check-stop, check-main, check-pass, check-first, check-enter, check-places, check-start-fits, check-module, check-less, check-bad, check-end)
+-- a set that is refused has no index
+pub check-none : (s : List ℕ) (e : ModuleError) (r : Checked) (index : List ℕ) → r ≡ refused e → IndexedSet s r index
+unfolding refused
+check-none s e r index f = record { names = λ n q. clash (let z : Refused e ≡ Modules n = sym (ap (λ (c : Checked). c .answer) f) ∙ q in cc) }
+
+pub ruleset check-laws = (check-long, check-start, check-room, check-fits, check-stop, check-main, check-pass, check-first, check-enter, check-places, check-start-fits, check-module, check-less, check-bad, check-by, check-indexed, check-end, check-none)

@@ -2,7 +2,7 @@
 -- name stands twice in one of them.
 use Prim.Native.Nat.{ℕ, _+_, _≤_, _<_}
 use mathlib.Core.Path.{_≡_, refl}
-use mathlib.Core.List.{List, [], _∷_, _++_, map, flatten, List·Memᴰ, List·Memᴰ·not-nil, List·Memᴰ·cases-cons}
+use mathlib.Core.List.{List, [], _∷_, _++_, map, map-append, flatten, List·Memᴰ, List·Memᴰ·not-nil, List·Memᴰ·cases-cons}
 use mathlib.Core.Logic.{⊎-elim}
 use mathlib.Core.Bool.{Bool, true, false, cond, _||_}
 use native.Mathlib.Omega.{arith}
@@ -15,7 +15,6 @@ use Rattle.records.specs.Set.{Passed, nameAt, placesAt, checkSet, upToNe
 use Rattle.records.specs.Places.{upToPlace, behindPlaces, placesOf, places, namesIn, distinct}
 use Rattle.records.specs.declared.record.Kind.the-variants.{Module, Place}
 use Rattle.records.specs.declared.set.SetAnswer.the-variants.{Modules}
-use Rattle.records.proofs.index.Laws.{map-last}
 use Rattle.records.proofs.name.Lists.{not-same, mem-left, mem-last}
 use Rattle.records.proofs.set.Blocks.{block-name, isOther, other-kind}
 use Rattle.records.proofs.set.Steps.{begins, belongs, mains, enters, Here, name-of, Walk, end, on, takes, module-is, module-no-place, place-is, inner-no-module, inner-no-place, main-no-module, main-no-place}
@@ -119,10 +118,10 @@ module _ {s here : List ℕ} {r : List ℕ} {rs : List (List ℕ)} where
   unfolding upToPlace behindPlaces blocksOf distinct memName
   apart-module {at} m p c new a = record {
     others = λ n h.
-        let k : memName n (map (nameAt s) (here ++ (at ∷ []))) ≡ true = rw (map-last s here at) (mem-left n (map (nameAt s) here) (nameAt s at ∷ []) h) in
+        let k : memName n (map (nameAt s) (here ++ (at ∷ []))) ≡ true = rw (map-append (nameAt s) here (at ∷ [])) (mem-left n (map (nameAt s) here) (nameAt s at ∷ []) h) in
         rw (p, m, block-name r (upToNext (upToPlace rs)) (c .one) m, not-same (map (nameAt s) here) (moduleName (bodyOf r)) n new h) (a .others n k);
     once =
-        let k : memName (moduleName (bodyOf r)) (map (nameAt s) (here ++ (at ∷ []))) ≡ true = rw (map-last s here at, name-of c) (mem-last (moduleName (bodyOf r)) (map (nameAt s) here)) in
+        let k : memName (moduleName (bodyOf r)) (map (nameAt s) (here ++ (at ∷ []))) ≡ true = rw (map-append (nameAt s) here (at ∷ []), name-of c) (mem-last (moduleName (bodyOf r)) (map (nameAt s) here)) in
         rw (p, m, block-name r (upToNext (upToPlace rs)) (c .one) m, a .others (moduleName (bodyOf r)) k) (a .once);
     behind = rw p (a .behind);
   }

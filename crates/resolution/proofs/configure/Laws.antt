@@ -1,6 +1,6 @@
 -- What each function around the resolver returns.
 use mathlib.Core.Path.{_≡_, refl, sym, ap, _∙_, subst}
-use mathlib.Core.Bool.{Bool, true, false, _&&_, _||_, and-false, or-false, or-true}
+use mathlib.Core.Bool.{Bool, true, false, _&&_, _||_, and-true, and-false, or-false, or-true}
 use mathlib.Core.List.{List, [], _∷_, map}
 use mathlib.Core.Option.{some}
 use Prim.Native.Nat.{ℕ, zero, suc, _+_, _≤_, _<_}
@@ -15,7 +15,6 @@ use borrow.Author.Tests.{eq-eqb, ne-eqb, eqb-true, lt-ltb, ltb-true, ltb-false}
 use Rattle.records.specs.Descriptor.{Descriptor}
 use Rattle.records.specs.Request.{requestOf, isPermitted}
 use Rattle.records.specs.Set.{checkSet, nameAt, modules}
-use Rattle.records.specs.Finder.{isFirst}
 use Rattle.records.specs.declared.error.ModuleError.{ModuleError}
 use Rattle.records.specs.declared.set.SetAnswer.the-variants.{Modules}
 use Rattle.records.proofs.set.Blocks.{GoodSet, good-set}
@@ -24,7 +23,8 @@ use Rattle.resolution.specs.Lists.{Name, Mem, any}
 use Rattle.resolution.specs.Resolution.{find, hasModule}
 use Rattle.resolution.specs.Positions.{moduleAt, isVisible}
 use Rattle.resolution.specs.Row.{holds, Empty, Added}
-use Rattle.resolution.specs.Readability.{Members, ReadEdges, tableNames}
+use Rattle.resolution.specs.Known.{Limited}
+use Rattle.resolution.specs.Readability.{Members, ReadEdges, Holding}
 use Rattle.resolution.specs.Resolver.{isOneOf}
 use Rattle.resolution.specs.Resolve.{memberAt, edgeAt, unnamedAt, configurationOf, refused}
 use Rattle.resolution.specs.Configure.{MemberRow, AcceptedWith, Configured, PermittedRow}
@@ -32,7 +32,7 @@ use Rattle.resolution.specs.declared.resolve.Outcome.the-variants.{Accep
 use Rattle.resolution.specs.declared.resolve.Resolution.{Resolution}
 use Rattle.resolution.proofs.Lists.{any-out, map-out}
 use Rattle.resolution.proofs.Positions.{index-at, has-at, visible-in, visible-found, visible-located}
-use Rattle.resolution.proofs.Sets.{set-length, starts-long, name-at-start, visible-start, lookup-few, lookup-room, lookup-index}
+use Rattle.resolution.proofs.Sets.{set-length, starts-long, name-at-start}
 use Rattle.resolution.proofs.Words.{words-are, edges-are}
 use Rattle.resolution.proofs.resolver.Ends.{one-of-end}
 
@@ -84,9 +84,9 @@ module _ (s q : List ℕ) (n : ℕ) (t : List ℕ) (e : checkSet s ≡ record { 
       added : (j : ℕ) → holds after j ≡ holds ws j || eqb j k
       added j = a .below (omega (arith, good-set s n t e .few)) j
 
-  module _ (v : Bool) (ev : v ≡ isFirst (tableNames s t n) (nameAt s (getD t k 0)) k) where
+  module _ (row : List ℕ) (hr : Holding row (isVisible (modules s))) (v : Bool) (ev : v ≡ holds row k) where
     seen : v ≡ isVisible (modules s) k
-    seen = ev ∙ sym (visible-start s n t e k l)
+    seen = ev ∙ hr .each k
 
     pub permitted-hidden : v ≡ false → PermittedAt s q n ws (k + 1)
     unfolding passes
@@ -103,7 +103,15 @@ module _ (s q : List ℕ) (n : ℕ) (t : List ℕ) (e : checkSet s ≡ record { 
       pub permitted-more : (after : List ℕ) → v ≡ true → r ≡ true → Added ws k after → PermittedAt s q n after (k + 1)
       permitted-more after h g a = grows after (here h ∙ g) a
 
-pub ruleset permitted-laws = (permitted-start, permitted-end, starts-long, lookup-few, lookup-room, lookup-index, permitted-hidden, permitted-not, permitted-more)
+-- without an LM every visible one is permitted
+pub permitted-free : (s q : List ℕ) (n : ℕ) (t : List ℕ) → checkSet s ≡ record { answer = Modules n; starts = t } → (ws : List ℕ) → Holding ws (isVisible (modules s))
+    → (r : Bool) → Limited q r → r ≡ false → PermittedRow s q n ws
+permitted-free s q n t e ws h r y f = record {
+  past = λ i l. h .each i ∙ by (isVisible (modules s) i) (λ z. absurd (omega (arith, visible-in (modules s) i z, set-length s n t (good-set s n t e)))) (λ z. z);
+  each = λ i l. h .each i ∙ sym (rw (y .free f (moduleAt (modules s) i .name)) (and-true (isVisible (modules s) i)));
+}
+
+pub ruleset permitted-laws = (permitted-start, permitted-end, permitted-free, starts-long, permitted-hidden, permitted-not, permitted-more)
 
 -- ---- the positions as a row
 

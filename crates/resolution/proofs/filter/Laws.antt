@@ -9,7 +9,6 @@ use lib.Dec.{eqb}
 use lib.ListN.{length, take, drop}
 use borrow.Author.Tests.{eq-eqb}
 use Rattle.records.specs.Bytes.{sameBytes}
-use Rattle.records.specs.Index.{hashOf}
 use Rattle.records.specs.Name.{memName, nameOf}
 use Rattle.records.specs.Record.{bodies, nextOf}
 use Rattle.records.specs.declared.record.Cursor.{Cursor}
@@ -20,6 +19,7 @@ use Rattle.records.proofs.record.Bodies.{bodies-next, bodies-end, next-room, ne
 use Rattle.records.proofs.Logic.{by, and-left, and-right, and-both, or-left, or-right, or-cases, true≠false, neither-left, neither-right}
 use Rattle.resolution.specs.Lists.{Name, any}
 use Rattle.resolution.specs.Graph.{edge, AddedEdge}
+use Rattle.resolution.specs.Hash.{hashOf}
 use Rattle.resolution.specs.Filter.{bitAt, hasBits, isMarked, BitsSet, MarkedAll}
 use Rattle.resolution.proofs.Lists.{same→}
 

@@ -9,12 +9,14 @@ use Rattle.records.specs.Name.{memName}
 use Rattle.records.specs.Descriptor.{descriptorOf}
 use Rattle.records.specs.Set.{blockAt, modules, checkSet}
 use Rattle.records.specs.Finder.{findName, isAt, isFirst}
+use Rattle.records.specs.Sorted.{IndexedSet}
 use Rattle.records.specs.declared.finder.Found.{Found}
 use Rattle.records.specs.declared.error.ModuleError.{ModuleError}
 use Rattle.records.specs.declared.set.Checked.{Checked}
 use Rattle.records.specs.declared.set.SetAnswer.{SetAnswer}
 use Rattle.records.specs.declared.set.SetAnswer.the-variants as Set
 use Rattle.records.proofs.set.Blocks.{GoodSet, good-set}
+use Rattle.records.proofs.sorted.Index.{indexed-none}
 use Rattle.resolution.specs.Lists.{Name}
 use Rattle.resolution.specs.Row.{holds}
 use Rattle.resolution.specs.Resolution.{names}
@@ -22,10 +24,10 @@ use Rattle.resolution.specs.Readability.{tableNames}
 use Rattle.resolution.specs.Positions.{moduleAt, isVisible}
 use Rattle.resolution.specs.Observed.{hasMember}
 use Rattle.resolution.specs.PackageOwner.{pickOwner, ownsAt, lowest, ownerIn, findModuleForPackage}
-use Rattle.resolution.specs.Lookup.{ownsBy}
+use Rattle.resolution.specs.Lookup.{Lookup, ownsBy}
 use Rattle.resolution.specs.declared.configuration.Configuration.{Configuration}
 use Rattle.resolution.specs.declared.owner.Owner.the-variants.{At, Nothing, Refused}
-use Rattle.resolution.proofs.Sets.{module-block}
+use Rattle.resolution.proofs.Sets.{module-block, set-lookup, lookup-few, lookup-room, lookup-index}
 
 module _ (s t : List ℕ) (n : ℕ) (members : List ℕ) (p : Name) (i : ℕ) (a : Bool) (ea : a ≡ holds members i) where
   module _ (y : a ≡ true) (b : List ℕ) (eb : b ≡ blockAt s t i) (r : Bool) (er : r ≡ memName p (descriptorOf b .packages)) where
@@ -42,7 +44,7 @@ module _ (s t : List ℕ) (n : ℕ) (members : List ℕ) (p : Name) (i : ℕ) (a
   unfolding ownsBy
   owns-no f = sym (rw (← ea, f))
 
-pub ruleset owns-laws = (owns-seen, owns-lacks, owns-no)
+pub ruleset owns-laws = (lookup-few, lookup-room, lookup-index, owns-seen, owns-lacks, owns-no)
 
 -- what code finds at each position, over the modules of the set
 abbrev ownsIn : List ℕ → List ℕ → Name → ℕ → Bool
@@ -65,6 +67,9 @@ module _ (s : List ℕ) (p : Name) (k : Checked) (ek : k ≡ checkSet s) where
     taken = sym (ap (λ (x : Checked). x .answer) ek) ∙ h;
     left = let z : n ≡ n - 0 = omega arith in ap (lowest (ownsIn s members p) 0) z;
   }
+
+  pub owner-lookup : (index : List ℕ) (n : ℕ) → k .answer ≡ Set.Modules n → IndexedSet s k index → Lookup s (k .starts) n index
+  owner-lookup index n h x = set-lookup s n (k .starts) (sym ek ∙ ap (λ (z : SetAnswer). record { answer = z; starts = k .starts }) h) index (x .names n h)
 
 module _ (s t : List ℕ) (n : ℕ) (members : List ℕ) (p : Name) (i : ℕ) (o : OwnerAt s t n members p i) where
   turn : i < n → lowest (ownsIn s members p) 0 n
@@ -107,4 +112,4 @@ module _ (s t : List ℕ) (n : ℕ) (c : Configuration) (p : Name) (i : ℕ) (o 
   unfolding lowest
   owner-none l = let z : n - i ≡ 0 = omega arith in sym (whole ∙ o .left ∙ rw z)
 
-pub ruleset owner-laws = (owner-refused, owner-start, owner-here, owner-more, owner-none)
+pub ruleset owner-laws = (indexed-none, owner-lookup, owner-refused, owner-start, owner-here, owner-more, owner-none)

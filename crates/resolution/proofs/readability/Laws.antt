@@ -22,6 +22,7 @@ use Rattle.records.specs.declared.record.Next.{Next}
 use Rattle.records.specs.declared.record.Next.the-variants as Next
 use Rattle.records.specs.declared.record.Kind.the-variants as Kind
 use Rattle.records.proofs.record.Bodies.{bodies-next, bodies-end, next-room, next-less}
+use Rattle.records.proofs.bytes.Laws.{same-eq}
 use Rattle.records.proofs.Logic.{true≠false, by}
 use Rattle.resolution.specs.Lists.{Name, any}
 use Rattle.resolution.specs.Row.{holds, Empty, Added}
@@ -60,6 +61,14 @@ member-below ws Nothing r n e = subst Below (sym e) tt
 pub at-below : (r : Found) (i : ℕ) → Below r → r ≡ At i → i < 256
 unfolding Below
 at-below r i b e = subst Below e b
+
+-- ---- the member of a requirement's name
+
+pub member-base : (l : List Name) (ws : List ℕ) (n : Name) (base : Found) (q : Bool) → base ≡ memberOf ws (findName l javaBase 0) → q ≡ sameBytes n javaBase
+    → q ≡ true → base ≡ memberOf ws (findName l n 0)
+member-base l ws n base q e eq y = e ∙ ap (λ (z : Name). memberOf ws (findName l z 0)) (sym (same-eq n javaBase (sym eq ∙ y)))
+
+pub ruleset required-member-laws = (member-base)
 
 -- ---- the row with what is found more
 

@@ -8,14 +8,16 @@ use lib.ListN.{length, take}
 use borrow.Author.Tests.{ltb-true, ltb-false}
 use Rattle.records.specs.Request.{requestOf, checkInputs}
 use Rattle.records.specs.Set.{checkSet, modules, refused as refusedSet}
+use Rattle.records.specs.Sorted.{IndexedSet}
 use Rattle.records.specs.declared.error.ModuleError.{ModuleError}
 use Rattle.records.specs.declared.error.ModuleError.the-variants.{TooLarge}
 use Rattle.records.specs.declared.set.Checked.{Checked}
 use Rattle.records.specs.declared.set.SetAnswer.the-variants as Set
 use Rattle.records.proofs.Logic.{clash}
-use Rattle.records.proofs.index.Laws.{indexed-none}
+use Rattle.records.proofs.sorted.Index.{indexed-none}
 use Rattle.records.proofs.request.Laws.{inputs-long}
 use Rattle.records.proofs.set.Blocks.{good-set}
+use Rattle.resolution.specs.Lookup.{Lookup}
 use Rattle.resolution.specs.Loop.{Result, failed, done}
 use Rattle.resolution.specs.Resolution.{State, Refusal}
 use Rattle.resolution.specs.Resolution as Resolution
@@ -82,7 +84,7 @@ module _ (s q : List ℕ) (n : ℕ) (t : List ℕ) (e : checkSet s ≡ record { 
     pub checked-open : (r : Declared.Resolution) → queue .halt ≡ Halt.Open → Configured s q n (take (queue .tail) order) r → r ≡ told s q (Resolution.resolve (modules s) (requestOf q))
     checked-open r k c = accepts r k c R refl
 
-pub ruleset checked-laws = (indexed-none, checked-few, checked-room, set-lookup, checked-short, checked-open, checked-stop, checked-refused)
+pub ruleset checked-laws = (checked-few, checked-room, checked-short, checked-open, checked-stop, checked-refused)
 
 -- ---- any set and request
 
@@ -94,6 +96,9 @@ module _ (s q : List ℕ) (c : Checked) (ec : c ≡ checkInputs s q) where
   module _ (n : ℕ) (k : c .answer ≡ Set.Modules n) where
     pub resolve-set : checkSet s ≡ record { answer = Set.Modules n; starts = c .starts }
     resolve-set = inputs-taken s q n c ec k
+
+    pub resolve-lookup : (index : List ℕ) → IndexedSet s c index → Lookup s (c .starts) n index
+    resolve-lookup index x = set-lookup s n (c .starts) resolve-set index (x .names n k)
 
     pub resolve-short : length q ≤ 65535
     unfolding refusedSet
@@ -110,4 +115,4 @@ module _ (s q : List ℕ) (c : Checked) (ec : c ≡ checkInputs s q) where
     unfolding resolve answered
     resolve-taken r er = er ∙ sym (ap (answered s q) (ap (λ (z : Checked). z .answer) (sym ec) ∙ k))
 
-pub ruleset resolve-laws = (resolve-refused, resolve-set, resolve-short, resolve-taken)
+pub ruleset resolve-laws = (indexed-none, resolve-refused, resolve-set, resolve-lookup, resolve-short, resolve-taken)

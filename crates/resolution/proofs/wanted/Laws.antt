@@ -13,7 +13,7 @@ use Rattle.records.specs.Request.{requestOf, isPermitted, Request}
 use Rattle.records.specs.Set.{nameAt}
 use Rattle.records.specs.Finder.{findName}
 use Rattle.records.specs.Order.{nameIn, isOrdered}
-use Rattle.records.specs.Index.{Indexed}
+use Rattle.records.specs.Sorted.{Indexed}
 use Rattle.records.specs.declared.error.Input.{Input}
 use Rattle.records.specs.declared.error.Input.the-variants as Input
 use Rattle.records.specs.declared.error.ModuleError.{ModuleError}

@@ -7,10 +7,12 @@ pub can-read-spec : {M : Type 1} → statement M
 can-read-spec =
     tie.close
     (tie.spec
+    (λ c. search (can-laws, needs))
     (λ c κs. search (can-laws, needs))
     (λ c. search (can-laws, needs))
     (λ c. search (can-laws, needs))
     (λ c κs. search (can-laws, needs))
+    (λ c. search (can-laws, needs))
     (λ c. search (can-laws, needs))
     (λ c. search (can-laws, needs))
     (λ c κs. search (can-laws, needs))

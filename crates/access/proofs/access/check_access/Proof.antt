@@ -7,11 +7,14 @@ pub check-access-spec : {M : Type 1} → statement M
 check-access-spec =
     tie.close
     (tie.spec
-    (λ c κs. search (answer-laws, needs))
-    (λ c. search (answer-laws, needs))
-    (λ c. search (answer-laws, needs))
     (λ c. search (answer-laws, needs))
     (λ c κs. search (answer-laws, needs))
+    (λ c. search (answer-laws, needs))
+    (λ c. search (answer-laws, needs))
+    (λ c. search (answer-laws, needs))
+    (λ c. search (answer-laws, needs))
+    (λ c κs. search (answer-laws, needs))
+    (λ c. search (answer-laws, needs))
     (λ c. search (answer-laws, needs))
     (λ c κs. search (answer-laws, needs))
     (λ c. search (answer-laws, needs))

@@ -15,4 +15,5 @@ judge-spec =
     (λ c κs. search (judge-laws, needs))
     (λ c. search (judge-laws, needs))
     (λ c. search (judge-laws, needs))
+    (λ c. search (judge-laws, needs))
     (λ c. search (judge-laws, needs)))

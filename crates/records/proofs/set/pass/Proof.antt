@@ -15,4 +15,5 @@ pass-spec =
     (λ c. search (pass-laws, needs))
     (λ c. search (pass-laws, needs))
     (λ c. search (pass-laws, needs))
+    (λ c. search (pass-laws, needs))
     (λ c. search (pass-laws, needs)))

@@ -5,10 +5,10 @@ use Rattle.resolution.proofs.owner.find_module_for_package.Statement.{s
 use Rattle.resolution.proofs.owner.find_module_for_package.Tie as tie
 
 abbrev Inv-loop : tie.InvT-loop
-Inv-loop set pkg n starts members i₀ i = OwnerAt set starts n (members .words) pkg i
+Inv-loop set pkg index n starts members i₀ i = OwnerAt set starts n (members .words) pkg i
 
 abbrev μ-loop : tie.MeasureT-loop
-μ-loop set pkg n starts members i₀ i = n - i
+μ-loop set pkg index n starts members i₀ i = n - i
 
 pub find-module-for-package-spec : {M : Type 1} → statement M
 find-module-for-package-spec =
@@ -16,7 +16,9 @@ find-module-for-package-spec =
     (tie.spec
     Inv-loop
     μ-loop
+    (λ c. search (owner-laws, needs))
     (λ c κs. search (owner-laws, needs))
+    (λ c. search (owner-laws, needs))
     (λ c. search (owner-laws, needs))
     (λ c. search (owner-laws, needs))
     (λ c. search (owner-laws, needs))

@@ -12,7 +12,7 @@ add-read-spec =
     (λ c κs. search (add-one-laws, needs))
     (λ c κs. search (add-one-laws, needs))
     (λ c κs. search (add-one-laws, needs))
-    (λ c κs. search (add-one-laws, needs))
+    (λ c κs. search (add-one-laws, c .before .before .before .before .before .before .before .before .before .before .before .good, needs))
     (λ c κs. search (add-one-laws, c .before .before .before .before .before .before .before .before .before .before .before .before .before .before .good, needs))
     (λ c. search (add-one-laws, needs))
     (λ c. search (add-one-laws, needs)))

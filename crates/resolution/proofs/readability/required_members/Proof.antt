@@ -7,10 +7,10 @@ use Rattle.resolution.proofs.readability.required_members.Statement.{st
 use Rattle.resolution.proofs.readability.required_members.Tie as tie
 
 abbrev Inv-loop : tie.InvT-loop
-Inv-loop set starts count index members block rows₀ c₀ rows c = BothAt (tableNames set starts count) (members .words) block (rows .all .words) (rows .transitive .words) (c .at)
+Inv-loop set starts count index members base block rows₀ c₀ rows c = BothAt (tableNames set starts count) (members .words) block (rows .all .words) (rows .transitive .words) (c .at)
 
 abbrev μ-loop : tie.MeasureT-loop
-μ-loop set starts count index members block rows₀ c₀ rows c = length block - c .at
+μ-loop set starts count index members base block rows₀ c₀ rows c = length block - c .at
 
 pub required-members-spec : {M : Type 1} → statement M
 required-members-spec =

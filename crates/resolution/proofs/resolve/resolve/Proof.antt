@@ -7,9 +7,11 @@ pub resolve-spec : {M : Type 1} → statement M
 resolve-spec =
     tie.close
     (tie.spec
+    (λ c. search (resolve-laws, needs))
     (λ c κs. search (resolve-laws, needs))
     (λ c. search (resolve-laws, needs))
     (λ c κs. search (resolve-laws, needs))
+    (λ c. search (resolve-laws, needs))
     (λ c. search (resolve-laws, needs))
     (λ c. search (resolve-laws, needs))
     (λ c κs. search (resolve-laws, needs))

@@ -7,19 +7,14 @@ pub resolve-checked-spec : {M : Type 1} → statement M
 resolve-checked-spec =
     tie.close
     (tie.spec
-    (λ c. search (checked-laws, needs))
+    (λ c κs. search (checked-laws, needs))
     (λ c κs. search (checked-laws, needs))
     (λ c. search (checked-laws, needs))
     (λ c κs. search (checked-laws, needs))
     (λ c. search (checked-laws, needs))
     (λ c κs. search (checked-laws, needs))
     (λ c. search (checked-laws, needs))
-    (λ c. search (checked-laws, needs))
     (λ c κs. search (checked-laws, needs))
     (λ c. search (checked-laws, needs))
-    (λ c κs. search (checked-laws, needs))
     (λ c. search (checked-laws, needs))
-    (λ c κs. search (checked-laws, needs))
-    (λ c. search (checked-laws, c .before .before .before .before .before .before .before .before .before .before .before .before .before .before .before .before .before .before .pre, needs))
-    (λ c. search (checked-laws, c .before .before .before .before .before .before .before .before .before .before .before .before .before .before .before .pre, needs))
-    (λ c. search (checked-laws, c .before .before .before .before .before .before .before .before .before .before .before .before .before .before .before .pre, needs)))
+    (λ c. search (checked-laws, needs)))

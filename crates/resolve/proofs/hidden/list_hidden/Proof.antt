@@ -4,10 +4,10 @@ use Rattle.resolve.proofs.hidden.list_hidden.Statement.{statement}
 use Rattle.resolve.proofs.hidden.list_hidden.Tie as tie
 
 abbrev Inv-loop : tie.InvT-loop
-Inv-loop set starts n i₀ i = Unit {0}
+Inv-loop set starts n index i₀ i = Unit {0}
 
 abbrev μ-loop : tie.MeasureT-loop
-μ-loop set starts n i₀ i = n - i
+μ-loop set starts n index i₀ i = n - i
 
 pub list-hidden-spec : {M : Type 1} → statement M
 list-hidden-spec =

@@ -1,0 +1,2 @@
+pub mod ByteOrder
+pub mod Laws
