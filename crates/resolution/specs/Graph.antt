@@ -1,6 +1,6 @@
 -- A graph on positions below 256, as 256 rows of four words, and what a depth-first search by marks leaves.
 use mathlib.Core.Path.{_≡_}
-use mathlib.Core.Bool.{Bool, true, not, _||_, _&&_}
+use mathlib.Core.Bool.{Bool, true, false, not, _||_, _&&_}
 use mathlib.Core.List.{List}
 use mathlib.Core.Logic.{_⊎_}
 use Prim.Native.Nat.{ℕ, _+_, _*_, _/_, _%_, _≤_, _<_}
@@ -23,6 +23,10 @@ lacks g i out j = edge g i j && not (holds out j)
 -- ws holds the positions that an edge from i leads to and that `out` does not hold, and no other
 pub record Lacking (g : List ℕ) (i : ℕ) (out ws : List ℕ) : Type 0 where
   pub each : (j : ℕ) → holds ws j ≡ lacks g i out j
+
+-- r is false only where `out` holds every position that an edge from i leads to
+pub record AnyLacking (g : List ℕ) (i : ℕ) (out : List ℕ) (r : Bool) : Type 0 where
+  pub none : r ≡ false → (j : ℕ) → lacks g i out j ≡ false
 
 -- there is a path of one edge or more from m to k
 pub data Reach (g : List ℕ) (m : ℕ) : ℕ → Type 0 where

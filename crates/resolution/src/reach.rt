@@ -3,7 +3,7 @@ ghost use mathlib.Core.Path.{_≡_};
 ghost use Prim.Native.Nat.{_<_, _≤_};
 ghost use lib.ListN.{length};
 ghost use Rattle.resolution.specs.Row.{holds, FirstFrom};
-ghost use Rattle.resolution.specs.Graph.{edge, lacks, AddedEdge, Lacking, Collected, ReachedFrom};
+ghost use Rattle.resolution.specs.Graph.{edge, lacks, AddedEdge, Lacking, AnyLacking, Collected, ReachedFrom};
 use crate::row::Row;
 use crate::row::with;
 use crate::word::next_one;
@@ -73,6 +73,20 @@ fn lacking(g: &[u64], m: usize, out: Row) -> Row
     Row { words }
 }
 
+// There is such a position. False only where there is none.
+fn any_lacking(g: &[u64], m: usize, out: Row) -> bool
+    requires { ⌜ length (now g) ≡ 1024 ⌝ }
+    ensures { λ r. ⌜ AnyLacking (now (g .entry)) m (out .words) r ⌝ }
+{
+    if m < 256 {
+        let x = out.words;
+        let at = m * 4;
+        return (g[at] & !x[0]) | (g[at + 1] & !x[1]) | (g[at + 2] & !x[2]) | (g[at + 3] & !x[3])
+            != 0;
+    }
+    false
+}
+
 // The first position from k on that an edge from m leads to and that out does not hold, 256 where there is none.
 fn next_edge(g: &[u64], m: usize, out: Row, k: usize) -> usize
     requires { ⌜ length (now g) ≡ 1024 ⌝ }
@@ -98,7 +112,10 @@ pub fn collect_transitive_reads(g: &[u64], m: usize, marks: Row) -> Row
             return out;
         }
         k = j + 1;
-        out = collect_transitive_reads(g, j, with(out, j));
+        out = with(out, j);
+        if any_lacking(g, j, out) {
+            out = collect_transitive_reads(g, j, out);
+        }
     }
     out
 }
@@ -116,7 +133,9 @@ pub fn reachable_from(g: &[u64], from: Row) -> Row
             return out;
         }
         k = m + 1;
-        out = collect_transitive_reads(g, m, out);
+        if any_lacking(g, m, out) {
+            out = collect_transitive_reads(g, m, out);
+        }
     }
     out
 }

@@ -11,10 +11,11 @@ use lib.Seq.{getD-set-same, getD-set-other}
 use borrow.Author.Tests.{eq-eqb, ne-eqb, eqb-true, eqb-false, ltb-true, ltb-false, lt-ltb, le-ltb}
 use mir.Syntax.{w64}
 use mir.Val.{Fits}
-use lib.Bits.{bitAnd}
+use lib.Bits.{bitAnd, bitOr}
+use Rattle.records.proofs.Logic.{true≠false}
 use Rattle.resolution.specs.Row.{bit, holds, FirstFrom}
-use Rattle.resolution.specs.Graph.{edge, lacks, AddedEdge, Lacking}
-use Rattle.resolution.proofs.row.Bits.{bit-zero, bit-and, bit-not}
+use Rattle.resolution.specs.Graph.{edge, lacks, AddedEdge, Lacking, AnyLacking}
+use Rattle.resolution.proofs.row.Bits.{bit-zero, bit-and, bit-not, bit-or}
 use Rattle.resolution.proofs.row.Laws.{eqb-parts, holds-out, zero-at}
 
 -- the edge's bit
@@ -172,6 +173,48 @@ lacking-is g i out f = record { each = λ j. go j (ltb j 256) refl }
     go j false h =
         let l : 256 ≤ j = ltb-false j 256 h in
         holds-out (lackWords g i out) j refl l ∙ ap (λ (t : Bool). t && not (holds out j)) (sym (edge-past g i j l))
+
+-- the four words in one: it is 0 only where all are
+abbrev pub anyWord : ℕ → ℕ → ℕ → ℕ → ℕ
+anyWord a b c d = bitOr (bitOr (bitOr a b) c) d
+
+none-of : (a b c d : Bool) → (((a || b) || c) || d) ≡ false → (a ≡ false) × (b ≡ false) × (c ≡ false) × (d ≡ false)
+none-of false false false false e = (refl, refl, refl, refl)
+none-of true b c d e = true≠false refl e
+none-of false true c d e = true≠false refl e
+none-of false false true d e = true≠false refl e
+none-of false false false true e = true≠false refl e
+
+any-bits : (a b c d k : ℕ) → anyWord a b c d ≡ 0 → (bit a k ≡ false) × (bit b k ≡ false) × (bit c k ≡ false) × (bit d k ≡ false)
+any-bits a b c d k e = none-of (bit a k) (bit b k) (bit c k) (bit d k)
+    (sym (bit-or (bitOr (bitOr a b) c) d k ∙ ap (λ (t : Bool). t || bit d k) (bit-or (bitOr a b) c k ∙ ap (λ (t : Bool). t || bit c k) (bit-or a b k)))
+    ∙ ap (λ (w : ℕ). bit w k) e ∙ bit-zero k)
+
+any-at : (a b c d i k : ℕ) → anyWord a b c d ≡ 0 → bit (getD (a ∷ b ∷ c ∷ d ∷ []) i 0) k ≡ false
+any-at a b c d zero k e = any-bits a b c d k e .0
+any-at a b c d (suc zero) k e = any-bits a b c d k e .1
+any-at a b c d (suc (suc zero)) k e = any-bits a b c d k e .2
+any-at a b c d (suc (suc (suc zero))) k e = any-bits a b c d k e .3
+any-at a b c d (suc (suc (suc (suc i)))) k e = bit-zero k
+
+none-zero : (w : ℕ) → not (eqb w 0) ≡ false → w ≡ 0
+none-zero w e = go (eqb w 0) refl e
+  where
+    go : (t : Bool) → eqb w 0 ≡ t → not t ≡ false → w ≡ 0
+    go true h _ = eqb-true w 0 h
+    go false _ k = true≠false refl k
+
+pub any-lacking : (g : List ℕ) (i : ℕ) (out : List ℕ) → ((k : ℕ) → Fits w64 (getD out k 0))
+    → AnyLacking g i out (not (eqb (anyWord (lackWord (getD g (i * 4) 0) (getD out 0 0)) (lackWord (getD g (i * 4 + 1) 0) (getD out 1 0))
+    (lackWord (getD g (i * 4 + 2) 0) (getD out 2 0)) (lackWord (getD g (i * 4 + 3) 0) (getD out 3 0))) 0))
+unfolding holds
+any-lacking g i out f = record { none = λ e j. sym (lacking-is g i out f .each j) ∙ any-at _ _ _ _ (j / 64) (j % 64) (none-zero _ e) }
+
+pub any-past : (g : List ℕ) (i : ℕ) (out : List ℕ) → length g ≡ 1024 → 256 ≤ i → AnyLacking g i out false
+unfolding lacks
+any-past g i out e l = record { none = λ _ j. ap (λ (t : Bool). t && not (holds out j)) (edge-out g i j e l) }
+
+pub ruleset any-lacking-laws = (any-lacking, any-past)
 
 -- the next position of the row of such edges is the next such edge
 pub next-lacking : (g : List ℕ) (i : ℕ) (out ws : List ℕ) (k r : ℕ) → Lacking g i out ws → FirstFrom (holds ws) k 256 r

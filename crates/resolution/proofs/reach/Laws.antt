@@ -8,7 +8,7 @@ use lib.ListN.{length}
 use borrow.Author.Tests.{not-true}
 use Rattle.records.proofs.Logic.{true≠false, and-left, and-right}
 use Rattle.resolution.specs.Row.{holds, Added, FirstFrom}
-use Rattle.resolution.specs.Graph.{edge, lacks, Collected, ReachedFrom, unmarked}
+use Rattle.resolution.specs.Graph.{edge, lacks, AnyLacking, Collected, ReachedFrom, unmarked}
 use Rattle.resolution.proofs.reach.Search.{Gathered, start, skip, visit, fewer, gather-start, gather-skip, gather-visit, gather-all}
 
 -- an edge to what is not marked: there is the edge, and no mark; where there is none such, an edge leads to a mark
@@ -22,6 +22,11 @@ no-lack : (a b : Bool) → (a && not b) ≡ false → a ≡ true → b ≡ true
 no-lack true true h e = refl
 no-lack true false h e = true≠false refl h
 no-lack false b h e = true≠false e refl
+
+-- a visit of m would add nothing
+still : (g : List ℕ) (m : ℕ) (ws : List ℕ) (r : Bool) → AnyLacking g m ws r → r ≡ false → Collected g m 256 ws ws
+unfolding lacks
+still g m ws r a e = skip g m 0 256 ws ws (start g m ws) (λ i _ _ d. no-lack (edge g m i) (holds ws i) (a .none e i) d)
 
 -- the successors of m below k are looked at
 pub record CollectAt (g : List ℕ) (m : ℕ) (before out : List ℕ) (k : ℕ) : Type 0 where
@@ -51,6 +56,11 @@ module _ {g : List ℕ} {m : ℕ} {before out : List ℕ} {k : ℕ} (h : Collect
       so-far = visit g m j before out marked after passed (lack-edge (edge g m j) (holds out j) (n .found l)) (w .below l) v;
     }
 
+    -- j is marked now, and a visit would add nothing
+    pub collect-still : (marked : List ℕ) (r : Bool) → j < 256 → Added out j marked → AnyLacking g j marked r → r ≡ false
+        → CollectAt g m before marked (j + 1)
+    collect-still marked r l w a e = collect-visit marked marked l w (still g j marked r a e)
+
     pub collect-fewer : (marked : List ℕ) (t : ℕ) → j < 256 → Added out j marked → unmarked before ≡ t → unmarked marked < t
     unfolding lacks
     collect-fewer marked t l w q =
@@ -60,7 +70,7 @@ module _ {g : List ℕ} {m : ℕ} {before out : List ℕ} {k : ℕ} (h : Collect
   pub collect-end : 256 ≤ k → Collected g m 256 before out
   collect-end l = let q : k ≡ 256 = omega (arith, h .within) in subst (λ (i : ℕ). Collected g m i before out) q (h .so-far)
 
-pub ruleset collect-laws = (collect-start, collect-none, collect-visit, collect-fewer, collect-end)
+pub ruleset collect-laws = (collect-start, collect-none, collect-visit, collect-still, collect-fewer, collect-end)
 
 -- the positions of `from` below k are visited
 pub record GatherAt (g from out : List ℕ) (k : ℕ) : Type 0 where
@@ -85,9 +95,12 @@ module _ {g from out : List ℕ} {k : ℕ} (h : GatherAt g from out k) where
     pub reach-visit : (after : List ℕ) → m < 256 → Collected g m 256 out after → GatherAt g from after (m + 1)
     reach-visit after l v = record { within = omega arith; so-far = gather-visit g from m out after gathered (n .found l) v }
 
+    pub reach-still : (r : Bool) → m < 256 → AnyLacking g m out r → r ≡ false → GatherAt g from out (m + 1)
+    reach-still r l a e = reach-visit out l (still g m out r a e)
+
   pub reach-end : length g ≡ 1024 → 256 ≤ k → ReachedFrom g from out
   reach-end e l =
       let q : k ≡ 256 = omega (arith, h .within) in
       gather-all g from out e (subst (λ (i : ℕ). Gathered g i from out) q (h .so-far))
 
-pub ruleset reach-laws = (reach-start, reach-none, reach-visit, reach-end)
+pub ruleset reach-laws = (reach-start, reach-none, reach-visit, reach-still, reach-end)

@@ -10,6 +10,7 @@ use Rattle.resolution.proofs.reach.collect_transitive_reads.Kinds as ki
 use Rattle.resolution.proofs.reach.+collect_transitive_reads.Lts-collect_transitive_reads as lts
 use Rattle.resolution.proofs.reach.next_edge.Reads as next-edge-reads
 use Rattle.resolution.proofs.row.with.Reads as with-reads
+use Rattle.resolution.proofs.reach.any_lacking.Reads as any-lacking-reads
 use Rattle.resolution.proofs.reach.+collect_transitive_reads.{statement}
 use Rattle.resolution.proofs.reach.+collect_transitive_reads.Tie.{close}
 
@@ -28,6 +29,8 @@ claims t = (
   next-edge-reads.Learnt,
   with-reads.Asked,
   with-reads.Learnt,
+  any-lacking-reads.Asked,
+  any-lacking-reads.Learnt,
   below t,
   own.Post,
 )
@@ -46,6 +49,9 @@ pub +collect-transitive-reads-spec : {M : Type 1} → statement M
     (λ c. search (collect-laws, needs))
     (λ c κs. search (collect-laws, needs))
     (λ c κs. search (collect-laws, needs))
+    (λ c κs. search (collect-laws, needs))
+    (λ c. search (collect-laws, needs))
+    (λ c. search (collect-laws, needs))
     (λ c. search (collect-laws, needs))
     (λ c. search (collect-laws, needs))
     (λ c. search (collect-laws, needs))
