@@ -45,6 +45,38 @@ fn modules(names: impl Iterator<Item = String>) -> Vec<u8> {
     names.fold(module("java.base"), |set, n| [set, module(&n)].concat())
 }
 
+/// Names that share 250 bytes: beside java.base a set has room for modules of 250.
+const LATE: usize = 250;
+fn late(i: usize) -> String {
+    "n".repeat(250) + &name(2, i)
+}
+
+/// The numbers below `count` from both ends in turn.
+fn ends(count: usize) -> impl Iterator<Item = usize> {
+    (0..count).map(move |i| if i % 2 == 0 { i / 2 } else { count - 1 - i / 2 })
+}
+
+/// java.base and modules of the first names, in a second place of the others; those that are there again are hidden.
+fn two_places(first: impl Iterator<Item = String>, second: impl Iterator<Item = String>) -> Vec<u8> {
+    [modules(first), place(), second.flat_map(|n| module(&n)).collect()].concat()
+}
+
+/// Sets that make the table of names, or the search for repeated ones, slow.
+fn slow_names() -> [(&'static str, Vec<u8>); 6] {
+    let third = LATE / 3;
+    [
+        ("250 modules that share 250 bytes", modules((0..LATE).map(late))),
+        ("250 modules that share 250 bytes, against the order", modules((0..LATE).rev().map(late))),
+        ("250 modules that share 250 bytes, from both ends in turn", modules(ends(LATE).map(late))),
+        ("255 modules that share 245 bytes, against the order", modules((1..256).rev().map(|i| late(i)[5..].into()))),
+        ("two places with the same 125 modules that share 250 bytes", two_places((0..125).map(late), (0..125).rev().map(late))),
+        (
+            "83 modules that share 250 bytes, in a second place 83 others and the same",
+            two_places((0..third).rev().map(late), (0..2 * third).rev().map(late)),
+        ),
+    ]
+}
+
 struct Table {
     seconds: f64,
     over: usize,
@@ -230,20 +262,21 @@ fn resolutions(t: &mut Table) {
         },
         root("a"),
     );
+    for (input, set) in slow_names() {
+        let names: Vec<_> = module_names(&set).map(|n| String::from_utf8_lossy(n)).collect();
+        let request = fill(Vec::new(), LIMIT, |i| root(&names[i % names.len()]));
+        t.resolve(&format!("{input}, 250 RT of them"), set, request);
+    }
+    let sixteen = |i: usize| "n".repeat(16) + &name(2, i);
+    let against = || [modules((1..255).rev().map(sixteen)), module("a")].concat();
     t.resolve(
-        "254 modules with one hash, 3,000 RQ of the first",
-        {
-            let set = modules((1..255).map(alike));
-            fill([set, module("a")].concat(), LIMIT, |_| requires(&alike(1), TRANSITIVE))
-        },
-        root("a"),
+        "254 modules that share 16 bytes, against the order, 2,250 RQ and 2,850 RT of them",
+        fill(against(), LIMIT, |i| requires(&sixteen(1 + i * 97 % 254), TRANSITIVE)),
+        fill(root("a"), LIMIT, |i| root(&sixteen(1 + i * 97 % 254))),
     );
     t.resolve(
-        "254 modules with one hash, 3,000 static RQ of absent names with it, ST",
-        {
-            let set = modules((1..255).map(alike));
-            fill([set, module("a")].concat(), LIMIT, |i| requires(&alike(1_000 + i), STATIC))
-        },
+        "254 modules that share 16 bytes, against the order, 2,150 static RQ of absent names between them, ST",
+        fill(against(), LIMIT, |i| requires(&(sixteen(1 + i * 97 % 254) + "!"), STATIC)),
         [root("a"), with_static()].concat(),
     );
     t.resolve(
@@ -453,6 +486,9 @@ fn questions(t: &mut Table) {
     let ask = ["a", "t", "~"];
 
     t.check("256 modules of 240 bytes with a common prefix", modules((1..256).map(long)), Vec::new());
+    for (input, set) in slow_names() {
+        t.check(input, set, Vec::new());
+    }
     t.check("10,900 PK, 10,900 RT", fill(base(), LIMIT, |_| package("!")), fill(Vec::new(), LIMIT, |_| root("!")));
     t.check(
         "EX of 32,000 targets, LM of 32,000 names",
@@ -507,6 +543,13 @@ fn questions(t: &mut Table) {
     let names = names.each_ref().map(String::as_str);
     t.graph("256 modules of 240 bytes, all edges", &set, &everything(), names);
     t.graph("256 modules of 240 bytes, a chain of reads", &set, &chain(), names);
+    let names = [late(1), late(2)];
+    let [asker, target] = names.each_ref().map(String::as_str);
+    for i in [1, 5] {
+        let (input, set) = slow_names()[i].clone();
+        t.graph(&format!("{input}, all edges"), &set, &everything(), [asker, target]);
+        t.access(input, set, Vec::new(), [asker, target, "~"]);
+    }
 }
 
 fn readers(t: &mut Table) {

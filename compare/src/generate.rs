@@ -37,6 +37,8 @@ pub struct System {
     pub packages: Vec<String>,
     pub set: Vec<u8>,
     pub request: Vec<u8>,
+    /// Where there are many modules: of 100 records as many as the set has, if it has room for them.
+    share: Option<usize>,
 }
 
 impl System {
@@ -76,10 +78,47 @@ fn system_of(r: &mut Random, n: usize) -> System {
     let mut absent: Vec<String> = ABSENT.iter().map(|s| s.to_string()).collect();
     absent.push("n".repeat(255));
     absent.extend(NAMES.iter().filter(|s| !names.iter().any(|n| n == *s)).map(|s| s.to_string()));
-    let mut s = System { names, absent, packages: Vec::new(), set: Vec::new(), request: Vec::new() };
+    written(r, names, absent, None)
+}
+
+fn written(r: &mut Random, names: Vec<String>, absent: Vec<String>, share: Option<usize>) -> System {
+    let mut s = System { names, absent, packages: Vec::new(), set: Vec::new(), request: Vec::new(), share };
     modules(r, &mut s);
     requests(r, &mut s);
     s
+}
+
+/// A system of 100 to 256 module names, which share their first bytes, 7 to 9 or 15 to 17 of them or more, and of which many are
+/// prefixes of others; in any order, and in half of the systems in places. It is never longer than a set may be.
+pub fn many(r: &mut Random) -> System {
+    loop {
+        let common = *r.choose(&[0, 1, 6, 7, 8, 9, 14, 15, 16, 17, 24, 60, 120, 246]);
+        let letters = *r.choose(&[&b"ab"[..], b"!~", b"!-Az~", b"abcdefghijklmnop"]);
+        let any = |r: &mut Random| {
+            let tail = (0..r.within(usize::from(common == 0), 7)).map(|_| char::from(*r.choose(letters)));
+            "java.bas".chars().cycle().take(common).chain(tail).collect::<String>()
+        };
+        let n = r.within(100, 256).min(60_000 / (common + 16));
+        let mut names = BTreeSet::from(["java.base".to_string()]);
+        for _ in 0..20 * n {
+            if names.len() < n {
+                names.insert(any(r));
+            }
+        }
+        let mut absent: Vec<String> = ABSENT.iter().map(|s| s.to_string()).collect();
+        absent.extend((0..50).map(|_| any(r)).filter(|a| !names.contains(a)));
+        let mut names: Vec<String> = names.into_iter().collect();
+        match r.below(4) {
+            0 => {}
+            1 => names.reverse(),
+            _ => r.shuffle(&mut names),
+        }
+        let share = *r.choose(&[5, 20, 60, 100]);
+        let s = written(r, names, absent, Some(share));
+        if s.set.len() <= 65_535 && s.request.len() <= 65_535 {
+            return s;
+        }
+    }
 }
 
 /// The modules of a set by the index of their names, and None where a place starts. Each name stands in one place; some stand in
@@ -132,7 +171,9 @@ fn modules(r: &mut Random, s: &mut System) {
     let mut chained: Vec<usize> = (0..n).collect();
     r.shuffle(&mut chained);
     let mut packages: BTreeSet<String> = SHARED.iter().map(|p| p.to_string()).collect();
-    for i in placed(r, n) {
+    let listed = placed(r, n);
+    let mut room = 65_535usize.saturating_sub(listed.iter().map(|i| i.map_or(4, |i| s.names[i].len() + 12)).sum());
+    for i in listed {
         let Some(i) = i else {
             s.set.extend(place());
             continue;
@@ -208,6 +249,13 @@ fn modules(r: &mut Random, s: &mut System) {
             body.push(main_class("main/Class"));
         }
         r.shuffle(&mut body);
+        if let Some(share) = s.share {
+            body.retain(|x| {
+                let kept = r.chance(share) && x.len() <= room;
+                room -= if kept { x.len() } else { 0 };
+                kept
+            });
+        }
         let mut flags = if r.chance(open) { OPEN } else { 0 };
         flags |= if r.chance(30) { *r.choose(&[0x8000, 0x1000, 0x0001, 0xFFDF]) } else { 0 };
         s.set.extend(module_with(&own_name, flags, r.chance(automatic), r.pick(&["", "", "2", "x~!"])));
@@ -270,15 +318,24 @@ fn odd(r: &mut Random) -> Vec<u8> {
     r.pick(&all).to_vec()
 }
 
-/// Any name that a question may have.
+/// Any name that a question may have; where there are many modules, also one that is nearly a module's.
 pub fn asked_name(r: &mut Random, s: &System) -> Vec<u8> {
-    match r.below(100) {
+    let mut name = match r.below(100) {
         0..14 => b"ALL-UNNAMED".to_vec(),
         14..22 => b"java.base".to_vec(),
         22..28 => odd(r),
         28..34 => r.choose(&s.absent).clone().into_bytes(),
         _ => r.choose(&s.names).clone().into_bytes(),
+    };
+    if s.share.is_some() && r.chance(20) {
+        match r.below(4) {
+            0 => name.push(0),
+            1 => name.push(*r.choose(b"!~\xFF")),
+            2 => name.resize(name.len() + 256, 0),
+            _ => name.truncate(name.len().saturating_sub(1)),
+        }
     }
+    name
 }
 
 /// A package; half of the time one of the target's own.

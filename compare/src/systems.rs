@@ -14,10 +14,20 @@ use std::collections::BTreeSet;
 
 const PATTERN: u64 = 0x5A5A_A5A5_5A5A_A5A5;
 
+/// Compares the system of a seed and, at every tenth seed, one of many modules.
 pub fn compare(report: &mut Report, seed: u64, questions: usize) {
-    ahash::set_seed(seed);
     let r = &mut Random::new(seed);
     let s = generate::system(r);
+    compare_system(report, seed, r, &s, questions);
+    if seed.is_multiple_of(10) {
+        let r = &mut Random::new(!seed);
+        let s = generate::many(r);
+        compare_system(report, seed, r, &s, questions);
+    }
+}
+
+fn compare_system(report: &mut Report, seed: u64, r: &mut Random, s: &System, questions: usize) {
+    ahash::set_seed(seed);
     let (modules, request) = parse_both(&s.set, &s.request).expect("the generator writes well-formed inputs");
     let inputs = Inputs { modules, request };
     let names = names(&inputs);
@@ -25,8 +35,8 @@ pub fn compare(report: &mut Report, seed: u64, questions: usize) {
     let places: Vec<_> = form::modules(&s.set).map(|m| (m.place, m.hidden_by)).collect();
     report.compare("places as the crate lists them", seed, &"", places, inputs.places());
     let second = second::resolve(&s.set, &s.request);
-    check_second(report, seed, &s, &inputs, &second);
-    let kinds = kinds(&s, &inputs, &second);
+    check_second(report, seed, s, &inputs, &second);
+    let kinds = kinds(s, &inputs, &second);
     kinds.iter().for_each(|kind| report.count(kind[0]));
 
     let mut words = [PATTERN; WORDS + 1];
@@ -49,11 +59,11 @@ pub fn compare(report: &mut Report, seed: u64, questions: usize) {
             kinds.iter().for_each(|kind| report.count(kind[1]));
             let c = resolved.expect("the library accepts");
             report.compare("numbers of members", seed, &"", (n, c.len()), (original.len(), original.len()));
-            report.compare("listings", seed, &"", listing_of(&s, &names, &c), listing(&original));
+            report.compare("listings", seed, &"", listing_of(s, &names, &c), listing(&original));
             let others = (0..256).filter(|i| !c.contains(*i));
             let empty = |i: usize| !c.reads_unnamed(i) && (0..256).all(|j| !c.reads(i, j));
             report.hold("rows of others than members empty", seed, &"", others.into_iter().all(empty));
-            ask(report, seed, r, &s, &names, &c, &original, questions, "resolved");
+            ask(report, seed, r, s, &names, &c, &original, questions, "resolved");
         }
         (Err(e), Err(cause)) => {
             report.count(match e {
@@ -64,7 +74,7 @@ pub fn compare(report: &mut Report, seed: u64, questions: usize) {
             });
             kinds.iter().for_each(|kind| report.count(kind[2]));
             report.hold("words left as they were on a refusal", seed, &"", words == [PATTERN; WORDS + 1]);
-            report.hold("causes of the library true", seed, &e, cause_is_true(&s, &inputs, &e));
+            report.hold("causes of the library true", seed, &e, cause_is_true(s, &inputs, &e));
             if with_static {
                 report.hold("causes of the original true", seed, &cause, inputs.is_true(&cause));
                 match inputs.without_rounds().resolve() {
@@ -82,12 +92,12 @@ pub fn compare(report: &mut Report, seed: u64, questions: usize) {
     }
 
     let which = if r.chance(50) { Input::Set } else { Input::Request };
-    damaged(report, seed, r, &s, which);
-    damaged_places(report, seed, r, &s);
-    damaged_static(report, seed, r, &s);
+    damaged(report, seed, r, s, which);
+    damaged_places(report, seed, r, s);
+    damaged_static(report, seed, r, s);
     let any = Configuration::from_words(generate::words(r));
     let original = inputs.configured(&any);
-    ask(report, seed, r, &s, &names, &any, &original, questions, "arbitrary");
+    ask(report, seed, r, s, &names, &any, &original, questions, "arbitrary");
 }
 
 /// The second reading is held to the original. Without ST the original is asked without the static requirements for the members
@@ -143,6 +153,15 @@ fn kinds(s: &System, inputs: &Inputs, second: &Result<Configuration, Refusal>) -
         let kind = ["systems of eight places", "systems of eight places accepted", "systems of eight places refused (5 to 7)"];
         kinds.push(kind);
     }
+    let is_large = inputs.modules.len() >= 100;
+    if is_large {
+        let kind = [
+            "systems of 100 to 256 modules",
+            "systems of 100 to 256 modules accepted",
+            "systems of 100 to 256 modules refused (5 to 7)",
+        ];
+        kinds.push(kind);
+    }
     if inputs.observable().contains(&false) {
         let kind = [
             "systems with hidden modules",
@@ -150,6 +169,14 @@ fn kinds(s: &System, inputs: &Inputs, second: &Result<Configuration, Refusal>) -
             "systems with hidden modules refused (5 to 7)",
         ];
         kinds.push(kind);
+        if is_large {
+            let kind = [
+                "systems of 100 to 256 modules, some hidden",
+                "systems of 100 to 256 modules, some hidden, accepted",
+                "systems of 100 to 256 modules, some hidden, refused (5 to 7)",
+            ];
+            kinds.push(kind);
+        }
     }
     kinds
 }

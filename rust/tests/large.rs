@@ -1,5 +1,5 @@
-//! Sets that take the library's other paths: more services in one round than its table holds, and names with one hash, which pass
-//! its filter of packages and share a chain of its index.
+//! Sets that take the library's other paths: more services in one round than its table holds, and packages with one hash, which its
+//! filter of packages lets pass.
 mod alike;
 
 use alike::alike;
@@ -64,15 +64,4 @@ fn repeated_packages() {
     let twice = |n: &str| [package(n), package(n)].concat();
     let set = [module("java.base"), module("a"), twice("p"), module("b"), twice("q")].concat();
     assert_eq!(started(&set, &[root("a"), root("b")].concat()), 3);
-}
-
-#[test]
-fn modules_with_one_hash() {
-    let listed = (0..200).flat_map(|i| module(&alike(i)));
-    let set: Vec<u8> = module("java.base").into_iter().chain(listed).collect();
-    let request: Vec<u8> = (0..200).step_by(3).flat_map(|i| root(&alike(i))).collect();
-    assert_eq!(started(&set, &request), 1 + 67);
-
-    let again = [set.clone(), module(&alike(77))].concat();
-    assert_eq!(resolve(&again, &request).unwrap_err(), Refusal::Repeated { offset: set.len() });
 }

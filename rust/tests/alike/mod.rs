@@ -1,7 +1,7 @@
-//! Names that the library's index of modules and filter of packages cannot tell apart: they have one hash.
+//! Names of packages with one hash: the library's filter of packages cannot tell them apart.
 use std::sync::OnceLock;
 
-/// The factors and the modulus of `records::index::hash`.
+/// The factors and the modulus of `resolution::hash::hash`.
 const FACTORS: [u64; 4] = [1_881_427, 1_364_441, 1_534_951, 1_366_551];
 const MODULUS: u64 = 4_294_967_291;
 
@@ -12,7 +12,7 @@ fn word(four: &[u8]) -> u64 {
     four.iter().rev().fold(0, |sum, b| sum * 256 + u64::from(*b))
 }
 
-/// What `records::index::hash` makes of a name of 8 to 15 bytes.
+/// What `resolution::hash::hash` makes of a name of 8 to 15 bytes.
 fn hash(name: &[u8]) -> u64 {
     let n = name.len();
     let words = [0, 4, n - 8, n - 4].map(|at| word(&name[at..at + 4]));
