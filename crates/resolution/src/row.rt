@@ -1,9 +1,10 @@
 // A set of up to 256 module positions, as a row of four words.
 ghost use mathlib.Core.Path.{_≡_};
-ghost use Prim.Native.Nat.{_<_, _≤_};
+ghost use mathlib.Core.Bool.{_&&_, _||_};
+ghost use Prim.Native.Nat.{ℕ, _/_, _%_, _<_, _≤_};
 ghost use lib.Dec.{eqb};
 ghost use lib.Count;
-ghost use Rattle.resolution.specs.Row.{holds, size, Empty, United, Added};
+ghost use Rattle.resolution.specs.Row.{bit, holds, size, Empty, United, Added};
 use crate::word::word_has;
 use crate::word::word_with;
 
@@ -24,14 +25,29 @@ pub fn has(row: Row, k: usize) -> bool
     }
 }
 
-// The row with position k more. From 256 on there is none, and the row stays as it is.
+// Word q of a row with position k more.
+fn word_of(w: u64, q: usize, k: usize) -> u64
+    ensures { λ r. ⌜ ((b : ℕ) → bit r b ≡ bit w b || (eqb (k / 64) q && eqb b (k % 64))) ⌝ }
+{
+    if k / 64 == q {
+        return word_with(w, k % 64);
+    }
+    w
+}
+
+// The row with position k more. From 256 on there is none, and the row stays as it is. Each word is made anew, so that none is read
+// back right after a part of the row was written.
 pub fn with(row: Row, k: usize) -> Row
     ensures { λ r. ⌜ Added (row .words) k (r .words) ⌝ }
 {
     if k < 256 {
-        let mut words = row.words;
-        let i = k / 64;
-        words[i] = word_with(words[i], k % 64);
+        let x = row.words;
+        let words = [
+            word_of(x[0], 0, k),
+            word_of(x[1], 1, k),
+            word_of(x[2], 2, k),
+            word_of(x[3], 3, k),
+        ];
         Row { words }
     } else {
         row

@@ -1,6 +1,6 @@
 -- The positions that a row holds, after a change of a word, of every word, and their count.
 use mathlib.Core.Path.{_≡_, refl, sym, ap, ap₂, _∙_}
-use mathlib.Core.Bool.{Bool, true, false, _||_, or-false}
+use mathlib.Core.Bool.{Bool, true, false, _&&_, _||_, or-false}
 use mathlib.Core.List.{List, [], _∷_}
 use Prim.Native.Nat.{ℕ, zero, suc, _+_, _*_, _/_, _%_, _^_, _≤_, _<_}
 use native.Mathlib.Omega.{arith}
@@ -12,6 +12,7 @@ use mir.Syntax.{w64}
 use mir.Val.{Fits}
 use lib.Bits.{bitOr}
 use borrow.Author.Tests.{eq-eqb, ne-eqb, eqb-true, eqb-false, ltb-true, ltb-false}
+use Rattle.records.proofs.Logic.{true≠false}
 use Rattle.resolution.specs.Row.{bit, holds, countBelow, size, Empty, United, Added, FirstFrom}
 use Rattle.resolution.proofs.row.Bits.{bit-zero, bit-or}
 use Rattle.resolution.proofs.row.Counts.{count-zero, count-add, count-same, count-none, none-of-count, ones-bits}
@@ -120,9 +121,37 @@ has-in ws k r e = e
 pub has-out : (ws : List ℕ) (k : ℕ) → length ws ≡ 4 → 256 ≤ k → false ≡ holds ws k
 has-out ws k n h = sym (holds-out ws k n h)
 
-pub with-in : (ws : List ℕ) (k v : ℕ) → length ws ≡ 4 → k < 256 → ((b : ℕ) → bit v b ≡ bit (getD ws (k / 64) 0) b || eqb b (k % 64))
-    → Added ws k (set ws (k / 64) v)
-with-in ws k v n l h = record { below = λ _. holds-added ws k v (omega arith) h; above = λ g. absurd (omega arith) }
+-- word q of a row with position k more
+pub word-in : (w q k r : ℕ) → k / 64 ≡ q → ((b : ℕ) → bit r b ≡ bit w b || eqb b (k % 64)) → (b : ℕ) → bit r b ≡ bit w b || (eqb (k / 64) q && eqb b (k % 64))
+word-in w q k r e h b = rw (eq-eqb (k / 64) q e) (h b)
+
+pub word-out : (w q k : ℕ) → (k / 64 ≡ q → ⊥) → (b : ℕ) → bit w b ≡ bit w b || (eqb (k / 64) q && eqb b (k % 64))
+word-out w q k e b = rw (ne-eqb (k / 64) q e) (sym (or-false (bit w b)))
+
+module _ (ws : List ℕ) (k w₀ w₁ w₂ w₃ : ℕ) (n : length ws ≡ 4) (l : k < 256)
+    (h₀ : (b : ℕ) → bit w₀ b ≡ bit (getD ws 0 0) b || (eqb (k / 64) 0 && eqb b (k % 64)))
+    (h₁ : (b : ℕ) → bit w₁ b ≡ bit (getD ws 1 0) b || (eqb (k / 64) 1 && eqb b (k % 64)))
+    (h₂ : (b : ℕ) → bit w₂ b ≡ bit (getD ws 2 0) b || (eqb (k / 64) 2 && eqb b (k % 64)))
+    (h₃ : (b : ℕ) → bit w₃ b ≡ bit (getD ws 3 0) b || (eqb (k / 64) 3 && eqb b (k % 64))) where
+  words-at : (q b : ℕ) → bit (getD (w₀ ∷ w₁ ∷ w₂ ∷ w₃ ∷ []) q 0) b ≡ bit (getD ws q 0) b || (eqb (k / 64) q && eqb b (k % 64))
+  words-at zero b = h₀ b
+  words-at (suc zero) b = h₁ b
+  words-at (suc (suc zero)) b = h₂ b
+  words-at (suc (suc (suc zero))) b = h₃ b
+  words-at (suc (suc (suc (suc q)))) b =
+      let g : getD ws (suc (suc (suc (suc q)))) 0 ≡ 0 = List·getD-eq-default ws 0 {n = suc (suc (suc (suc q)))} (omega arith) in
+      rw (g, ne-eqb (k / 64) (suc (suc (suc (suc q)))) (omega arith)) (sym (or-false (bit 0 b)))
+
+  same-place : (j : ℕ) → (eqb (k / 64) (j / 64) && eqb (j % 64) (k % 64)) ≡ eqb j k
+  same-place j = go (eqb (k / 64) (j / 64)) refl
+    where
+      go : (t : Bool) → eqb (k / 64) (j / 64) ≡ t → (t && eqb (j % 64) (k % 64)) ≡ eqb j k
+      go true e = eqb-parts j k (sym (eqb-true (k / 64) (j / 64) e))
+      go false e = sym (ne-eqb j k (λ i. true≠false (eq-eqb (k / 64) (j / 64) (ap (λ (z : ℕ). z / 64) (sym i))) e))
+
+  pub with-in : Added ws k (w₀ ∷ w₁ ∷ w₂ ∷ w₃ ∷ [])
+  unfolding holds
+  with-in = record { below = λ _ j. words-at (j / 64) (j % 64) ∙ rw (same-place j); above = λ g. absurd (omega arith) }
 
 pub with-out : (ws : List ℕ) (k : ℕ) → 256 ≤ k → Added ws k ws
 with-out ws k l = record { below = λ g. absurd (omega arith); above = λ _. refl }
@@ -193,5 +222,7 @@ pub ruleset next-laws = (next-start, next-found, next-on, next-end)
 pub ruleset has-laws = (has-in, has-out)
 
 pub ruleset ones-laws = (ones-fits, ones-64)
+
+pub ruleset word-of-laws = (word-in, word-out)
 
 pub ruleset with-laws = (with-in, with-out)

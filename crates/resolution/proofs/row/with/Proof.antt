@@ -8,9 +8,12 @@ with-spec =
     tie.close
     (tie.spec
     (λ c. search (with-laws, needs))
+    (λ c κs. search (with-laws, needs))
     (λ c. search (with-laws, needs))
     (λ c κs. search (with-laws, needs))
     (λ c. search (with-laws, needs))
+    (λ c κs. search (with-laws, needs))
     (λ c. search (with-laws, needs))
+    (λ c κs. search (with-laws, needs))
     (λ c. search (with-laws, needs))
     (λ c. search (with-laws, needs)))
