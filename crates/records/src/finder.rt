@@ -1,4 +1,4 @@
-// Lookup of a module by its name, over the table of a set's modules.
+// Lookup of a module by its name: the walk from the front over a set's modules.
 ghost use mathlib.Core.Path.{_≡_};
 ghost use mathlib.Core.List.{map};
 ghost use lib.ListN.{take};

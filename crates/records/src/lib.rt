@@ -6,7 +6,7 @@ pub mod descriptor;
 pub mod error;
 pub mod finder;
 pub mod jar;
-pub mod keys;
+mod keys;
 pub mod name;
 pub mod order;
 pub mod output;

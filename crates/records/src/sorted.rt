@@ -244,8 +244,8 @@ fn put(index: &mut [usize], at: usize, i: usize, k: usize, j: usize, len: usize)
     index[3 * i + 2] = len;
 }
 
-// Adds the next module, which has this name, to the index of those before it. Whether no module before it has the name; else the
-// index stays as it is.
+// Adds the next module, which has this name, to the index of those before it, unless its name is there. Where it answers true, no
+// module before it has the name.
 pub fn add(set: &[u8], starts: &[usize], count: usize, index: &mut [usize], name: &[u8]) -> bool
     requires { ⌜ count < 256 ⌝ }
     requires { ⌜ count ≤ length (now starts) ⌝ }

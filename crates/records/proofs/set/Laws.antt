@@ -354,9 +354,6 @@ module _ (t : List ℕ) (n : Seen) (parted : n .first ≤ n .count) (few : n .co
       let q : n .count ≡ n .first + (n .count - n .first) = omega arith in
       ap (λ (i : ℕ). drop (n .first) (set t i x)) q ∙ drop-set-add (n .first) t (n .count - n .first) x
 
-  here-kept : take (n .count - n .first) (drop (n .first) (set t (n .count) x)) ≡ hereOf t n
-  here-kept = rw later-set (take-set-le (n .count - n .first) (drop (n .first) t) (n .count - n .first) x (omega arith))
-
   here-more : take (n .count - n .first + 1) (drop (n .first) (set t (n .count) x)) ≡ hereOf t n ++ (x ∷ [])
   here-more = rw (later-set, add-one) (take-suc-set (drop (n .first) t) (n .count - n .first) x (rw length-drop (omega arith)))
 
