@@ -35,14 +35,14 @@ def many(count):
 limit = record(b"LM", b"\0\1" + name(b"a"))
 files = {
     "set-listing": listing,
-    "set-256-modules": many(256),
-    "set-257-modules": many(257),
+    "set-512-modules": many(512),
+    "set-513-modules": many(513),
     "set-8-places": place * 8,
     "set-9-places": place * 9,
     "set-8-places-module-first": base + place * 7,
     "set-9-places-module-first": base + place * 8,
-    "set-256-with-hidden": many(128) + place + many(128),
-    "set-257-with-hidden": many(128) + place + many(129),
+    "set-512-with-hidden": many(256) + place + many(256),
+    "set-513-with-hidden": many(256) + place + many(257),
     "set-65535-bytes": filled(65535),
     "set-65536-bytes": filled(65536),
     "set-cut-off": base + package(b"java/lang")[:-1],

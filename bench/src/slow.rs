@@ -51,6 +51,11 @@ fn late(i: usize) -> String {
     "n".repeat(250) + &name(2, i)
 }
 
+/// Names that share 117 bytes: a set has room for as many as it may have modules.
+fn middle(i: usize) -> String {
+    "n".repeat(117) + &name(2, i)
+}
+
 /// The numbers below `count` from both ends in turn.
 fn ends(count: usize) -> impl Iterator<Item = usize> {
     (0..count).map(move |i| if i % 2 == 0 { i / 2 } else { count - 1 - i / 2 })
@@ -62,7 +67,7 @@ fn two_places(first: impl Iterator<Item = String>, second: impl Iterator<Item = 
 }
 
 /// Sets that make the table of names, or the search for repeated ones, slow.
-fn slow_names() -> [(&'static str, Vec<u8>); 6] {
+fn slow_names() -> [(&'static str, Vec<u8>); 11] {
     let third = LATE / 3;
     [
         ("250 modules that share 250 bytes", modules((0..LATE).map(late))),
@@ -74,6 +79,14 @@ fn slow_names() -> [(&'static str, Vec<u8>); 6] {
             "83 modules that share 250 bytes, in a second place 83 others and the same",
             two_places((0..third).rev().map(late), (0..2 * third).rev().map(late)),
         ),
+        ("511 modules that share 117 bytes", modules((1..512).map(middle))),
+        ("511 modules that share 117 bytes, against the order", modules((1..512).rev().map(middle))),
+        ("511 modules that share 117 bytes, from both ends in turn", modules(ends(511).map(middle))),
+        (
+            "two places with the same 255 modules that share 117 bytes",
+            two_places((0..255).map(middle), (0..255).rev().map(middle)),
+        ),
+        ("511 modules of 2 bytes, from both ends in turn", modules(ends(511).map(|i| name(2, i)))),
     ]
 }
 
@@ -159,15 +172,15 @@ fn number(unit: &str) -> impl Fn(Result<usize, Refusal>) -> String + '_ {
 
 /// All are members and read all.
 fn everything() -> Configuration {
-    Configuration::from_words([u64::MAX; WORDS])
+    Configuration::from_words(vec![u64::MAX; WORDS].try_into().expect("as many words"))
 }
 
 /// Position i reads i - 1 alone: sweeps from the front add one each.
 fn chain() -> Configuration {
-    let mut words = [0; WORDS];
-    words[..4].fill(u64::MAX);
-    (1..256).for_each(|i| words[4 + 4 * i + (i - 1) / 64] |= 1 << ((i - 1) % 64));
-    Configuration::from_words(words)
+    let mut words = vec![0; WORDS];
+    words[..8].fill(u64::MAX);
+    (1..512).for_each(|i| words[8 + 9 * i + (i - 1) / 64] |= 1 << ((i - 1) % 64));
+    Configuration::from_words(words.try_into().expect("as many words"))
 }
 
 /// PK of the names with one hash from number `first` on.
@@ -220,8 +233,8 @@ fn resolutions(t: &mut Table) {
         fill(all_of(&downward(8_100)), LIMIT, |i| root(&name(3, i))),
     );
     t.resolve(
-        "256 modules, LM of 21,000 other names as long",
-        modules((1..256).map(|i| name(2, i))),
+        "512 modules, LM of 21,000 other names as long",
+        modules((1..512).map(|i| name(2, i))),
         limits(Vec::new(), "~~", LIMIT),
     );
     t.resolve(
@@ -231,26 +244,26 @@ fn resolutions(t: &mut Table) {
     );
 
     t.resolve(
-        "256 modules, 6,000 RQ of the last",
+        "512 modules, 6,000 RQ of the last",
         {
-            let set = modules((1..254).map(|i| name(2, i)));
+            let set = modules((1..510).map(|i| name(2, i)));
             [fill([set, module("a")].concat(), LIMIT - 20, |_| requires("zz", TRANSITIVE)), module("zz")].concat()
         },
         root("a"),
     );
     let optional = |n: &str| {
-        let set = [modules((1..254).map(|i| name(2, i))), module("zz"), module("a")].concat();
+        let set = [modules((1..510).map(|i| name(2, i))), module("zz"), module("a")].concat();
         fill(set, LIMIT, |_| requires(n, STATIC | TRANSITIVE))
     };
-    t.resolve("256 modules, 6,000 static RQ of an absent name, ST", optional("~~"), [root("a"), with_static()].concat());
-    t.resolve("256 modules, 6,000 static RQ of an absent name, no ST", optional("~~"), root("a"));
+    t.resolve("512 modules, 6,000 static RQ of an absent name, ST", optional("~~"), [root("a"), with_static()].concat());
+    t.resolve("512 modules, 6,000 static RQ of an absent name, no ST", optional("~~"), root("a"));
     t.resolve(
-        "256 modules, 6,000 static RQ of the last but one, ST behind 10,900 RT",
+        "512 modules, 6,000 static RQ of the last but one, ST behind 10,900 RT",
         optional("zz"),
         [fill(Vec::new(), LIMIT - 4, |_| root("a")), with_static()].concat(),
     );
     t.resolve(
-        "256 modules, 6,000 static RQ of the last but one, 10,900 RT, no ST",
+        "512 modules, 6,000 static RQ of the last but one, 10,900 RT, no ST",
         optional("zz"),
         fill(Vec::new(), LIMIT, |_| root("a")),
     );
@@ -265,24 +278,38 @@ fn resolutions(t: &mut Table) {
     for (input, set) in slow_names() {
         let names: Vec<_> = module_names(&set).map(|n| String::from_utf8_lossy(n)).collect();
         let request = fill(Vec::new(), LIMIT, |i| root(&names[i % names.len()]));
-        t.resolve(&format!("{input}, 250 RT of them"), set, request);
+        let roots = records(&request).count() / 10 * 10;
+        t.resolve(&format!("{input}, {roots} RT of them"), set, request);
     }
     let sixteen = |i: usize| "n".repeat(16) + &name(2, i);
-    let against = || [modules((1..255).rev().map(sixteen)), module("a")].concat();
+    let against = || [modules((1..511).rev().map(sixteen)), module("a")].concat();
     t.resolve(
-        "254 modules that share 16 bytes, against the order, 2,250 RQ and 2,850 RT of them",
-        fill(against(), LIMIT, |i| requires(&sixteen(1 + i * 97 % 254), TRANSITIVE)),
-        fill(root("a"), LIMIT, |i| root(&sixteen(1 + i * 97 % 254))),
+        "510 modules that share 16 bytes, against the order, 1,980 RQ and 2,850 RT of them",
+        fill(against(), LIMIT, |i| requires(&sixteen(1 + i * 97 % 510), TRANSITIVE)),
+        fill(root("a"), LIMIT, |i| root(&sixteen(1 + i * 97 % 510))),
     );
     t.resolve(
-        "254 modules that share 16 bytes, against the order, 2,150 static RQ of absent names between them, ST",
-        fill(against(), LIMIT, |i| requires(&(sixteen(1 + i * 97 % 254) + "!"), STATIC)),
+        "510 modules that share 16 bytes, against the order, 1,910 static RQ of absent names between them, ST",
+        fill(against(), LIMIT, |i| requires(&(sixteen(1 + i * 97 % 510) + "!"), STATIC)),
         [root("a"), with_static()].concat(),
     );
+    let roots = || (1..512).flat_map(|i| root(&name(2, i))).collect::<Vec<_>>();
+    let between = |i: usize| add_read(&name(2, 1 + i * 97 % 511), &name(2, 1 + i * 101 % 509));
+    let automatic = || (1..512).fold(base(), |set, i| [set, module_with(&name(2, i), 0, true, "")].concat());
     t.resolve(
-        "256 modules, 6,500 AR between the last two",
-        modules((1..256).map(|i| name(2, i))),
-        fill((1..256).flat_map(|i| root(&name(2, i))).collect(), LIMIT, |_| add_read(&name(2, 254), &name(2, 255))),
+        "512 modules, 6,190 AR between the last two",
+        modules((1..512).map(|i| name(2, i))),
+        fill(roots(), LIMIT, |_| add_read(&name(2, 510), &name(2, 511))),
+    );
+    t.resolve("512 modules, 6,190 AR between all", modules((1..512).map(|i| name(2, i))), fill(roots(), LIMIT, between));
+    t.resolve("512 automatic modules", automatic(), roots());
+    t.resolve("512 automatic modules, 6,190 AR between all", automatic(), fill(roots(), LIMIT, between));
+    t.resolve(
+        "512 automatic modules in a ring of transitive RQ, 6,190 AR between all",
+        (1..512).fold(base(), |set, i| {
+            [set, module_with(&name(2, i), 0, true, ""), requires(&name(2, i % 511 + 1), TRANSITIVE)].concat()
+        }),
+        fill(roots(), LIMIT, between),
     );
     t.resolve(
         "256 modules of 240 bytes with a common prefix, 130 AR between the last two",
@@ -290,34 +317,37 @@ fn resolutions(t: &mut Table) {
         fill(root(&long(255)), LIMIT, |_| add_read(&long(254), &long(255))),
     );
 
-    let ring = |step: usize| {
-        (1..256).fold(base(), |set, i| {
+    // so many modules beside java.base, each with as many RQ as there is room for
+    let ring = |count: usize, step: usize| {
+        (1..count + 1).fold(base(), |set, i| {
             let set = [set, module(&name(2, i))].concat();
             let mut next = 0;
-            fill(set, base().len() + i * (LIMIT - base().len()) / 255, |_| {
+            fill(set, base().len() + i * (LIMIT - base().len()) / count, |_| {
                 next += step;
-                requires(&name(2, (i + next) % 255 + 1), TRANSITIVE)
+                requires(&name(2, (i + next) % count + 1), TRANSITIVE)
             })
         })
     };
     t.resolve(
-        "256 modules in a ring of transitive RQ",
-        (1..256).fold(base(), |set, i| [set, module(&name(2, i)), requires(&name(2, i % 255 + 1), TRANSITIVE)].concat()),
+        "512 modules in a ring of transitive RQ",
+        (1..512).fold(base(), |set, i| [set, module(&name(2, i)), requires(&name(2, i % 511 + 1), TRANSITIVE)].concat()),
         root(&name(2, 1)),
     );
     t.resolve(
         "the same against the order of the set",
         {
-            (1..256)
-                .fold(base(), |set, i| [set, module(&name(2, i)), requires(&name(2, (i + 253) % 255 + 1), TRANSITIVE)].concat())
+            (1..512)
+                .fold(base(), |set, i| [set, module(&name(2, i)), requires(&name(2, (i + 509) % 511 + 1), TRANSITIVE)].concat())
         },
         root(&name(2, 1)),
     );
-    t.resolve("256 modules with 24 transitive RQ each", ring(11), root(&name(2, 1)));
+    t.resolve("256 modules with 24 transitive RQ each", ring(255, 11), root(&name(2, 1)));
+    t.resolve("512 modules with 11 transitive RQ each", ring(511, 11), root(&name(2, 1)));
+    t.resolve("512 modules with 11 transitive RQ each, in steps of 23", ring(511, 23), root(&name(2, 1)));
     t.resolve(
-        "the same with 6,500 AR between the last two",
-        ring(11),
-        fill(root(&name(2, 1)), LIMIT, |_| add_read(&name(2, 254), &name(2, 255))),
+        "512 modules with 11 transitive RQ each, 6,550 AR between the last two",
+        ring(511, 11),
+        fill(root(&name(2, 1)), LIMIT, |_| add_read(&name(2, 510), &name(2, 511))),
     );
 
     t.resolve(
@@ -329,14 +359,14 @@ fn resolutions(t: &mut Table) {
         [root("a"), root("b")].concat(),
     );
     t.resolve(
-        "8,000 PK in 250 modules, all different",
+        "7,500 PK in 500 modules, all different",
         {
-            (0..250).fold(base(), |set, i| {
+            (0..500).fold(base(), |set, i| {
                 let set = [set, module(&name(2, i))].concat();
-                fill(set, (i + 1) * LIMIT / 250, |j| package(&name(3, i * 100 + j)))
+                fill(set, (i + 1) * LIMIT / 500, |j| package(&name(3, i * 100 + j)))
             })
         },
-        (0..250).flat_map(|i| root(&name(2, i))).collect(),
+        (0..500).flat_map(|i| root(&name(2, i))).collect(),
     );
     t.resolve(
         "5,400 PK of a package that another module has behind 5,400 PK",
@@ -354,16 +384,17 @@ fn resolutions(t: &mut Table) {
         },
         [root("a"), root("b")].concat(),
     );
-    t.resolve(
-        "250 modules with 14 PK each, all with one hash",
-        {
-            (0..250).fold(base(), |set, i| {
+    for (input, count) in [("250 modules with 14 PK each, all with one hash", 250), ("511 modules with 6 PK each, the same", 511)]
+    {
+        t.resolve(
+            input,
+            (0..count).fold(base(), |set, i| {
                 let set = [set, module(&name(2, i))].concat();
-                fill(set, (i + 1) * LIMIT / 250, alike_package(i * 20))
-            })
-        },
-        (0..250).flat_map(|i| root(&name(2, i))).collect(),
-    );
+                fill(set, (i + 1) * LIMIT / count, alike_package(i * 20))
+            }),
+            (0..count).flat_map(|i| root(&name(2, i))).collect(),
+        );
+    }
     t.resolve(
         "two modules with 4,090 PK each, one of them twice",
         {
@@ -375,12 +406,12 @@ fn resolutions(t: &mut Table) {
     );
 
     t.resolve(
-        "4,000 US of one module, 3,200 PV of 250, all different",
+        "4,000 US of one module, 2,700 PV of 500, all different",
         {
             let set = fill(base(), LIMIT / 2, |i| uses(&name(3, i)));
-            (0..250).fold(set.clone(), |all, i| {
+            (0..500).fold(set.clone(), |all, i| {
                 let all = [all, module(&name(2, i))].concat();
-                fill(all, set.len() + (i + 1) * (LIMIT - set.len()) / 250, |j| provides(&name(3, 100_000 + i * 100 + j), &[]))
+                fill(all, set.len() + (i + 1) * (LIMIT - set.len()) / 500, |j| provides(&name(3, 100_000 + i * 100 + j), &[]))
             })
         },
         Vec::new(),
@@ -411,24 +442,24 @@ fn resolutions(t: &mut Table) {
             [set, own.concat()].concat()
         })
     };
-    t.resolve("255 rounds", rounds(base(), 255), Vec::new());
+    t.resolve("511 rounds", rounds(base(), 511), Vec::new());
     t.resolve(
-        "254 rounds, a module with 7,200 PV of services that nobody uses",
-        fill([rounds(base(), 254), module("a")].concat(), LIMIT, |_| provides("~", &[])),
+        "510 rounds, a module with 6,270 PV of services that nobody uses",
+        fill([rounds(base(), 510), module("a")].concat(), LIMIT, |_| provides("~", &[])),
         Vec::new(),
     );
     t.resolve(
-        "254 rounds, a module with 210 PV of a service of 255 bytes",
+        "510 rounds, a module with 190 PV of a service of 255 bytes",
         {
             let long = "n".repeat(255);
-            fill([rounds(base(), 254), module("a")].concat(), LIMIT, |_| provides(&long, &[]))
+            fill([rounds(base(), 510), module("a")].concat(), LIMIT, |_| provides(&long, &[]))
         },
         Vec::new(),
     );
     // In each round a module that uses `count` services, and one with services in between that nobody uses.
-    let broad = |count: usize| {
-        let set = (0..253).fold([base(), uses("s!!")].concat(), |set, i| {
-            let others = (0..count).flat_map(|j| uses(&format!("m{}", name(2, j * 300 + i))));
+    let broad = |rounds: usize, count: usize| {
+        let set = (0..rounds - 1).fold([base(), uses("s!!")].concat(), |set, i| {
+            let others = (0..count).flat_map(|j| uses(&format!("m{}", name(2, j * 600 + i))));
             let own = [
                 module(&name(3, 500_000 + i)),
                 provides(&format!("s{}", name(2, i)), &[]),
@@ -439,9 +470,10 @@ fn resolutions(t: &mut Table) {
         });
         fill([set, module("a")].concat(), LIMIT, |i| provides(&format!("m{}~", name(2, i * 2 % 8_800)), &[]))
     };
-    t.resolve("254 rounds with 2 new US each, a module with 5,080 PV", broad(1), Vec::new());
-    t.resolve("254 rounds with 5 new US each, a module with 4,520 PV", broad(4), Vec::new());
-    t.resolve("254 rounds with 13 new US each, a module with 3,050 PV", broad(12), Vec::new());
+    t.resolve("510 rounds with 2 new US each, a module with 4,190 PV", broad(510, 1), Vec::new());
+    t.resolve("510 rounds with 5 new US each, a module with 3,080 PV", broad(510, 4), Vec::new());
+    t.resolve("510 rounds with 9 new US each, a module with 1,600 PV", broad(510, 8), Vec::new());
+    t.resolve("254 rounds with 13 new US each, a module with 3,050 PV", broad(254, 12), Vec::new());
     t.resolve(
         "a round with 7,000 RQ of an absent name that is the last of 10,900 RT",
         {
@@ -538,14 +570,14 @@ fn questions(t: &mut Table) {
         |o| if o == Ok(None) { "none".into() } else { "found".into() },
         || saqhovune::find_module_for_package(black_box(&set), &c, b"~"),
     );
-    let set = modules((1..256).map(long));
-    let names = [long(255), long(254)];
+    let set = modules((1..512).map(middle));
+    let names = [middle(511), middle(510)];
     let names = names.each_ref().map(String::as_str);
-    t.graph("256 modules of 240 bytes, all edges", &set, &everything(), names);
-    t.graph("256 modules of 240 bytes, a chain of reads", &set, &chain(), names);
-    let names = [late(1), late(2)];
-    let [asker, target] = names.each_ref().map(String::as_str);
-    for i in [1, 5] {
+    t.graph("512 modules of 119 bytes, all edges", &set, &everything(), names);
+    t.graph("512 modules of 119 bytes, a chain of reads", &set, &chain(), names);
+    let (late, middle) = ([late(1), late(2)], [middle(1), middle(2)]);
+    for (i, names) in [(1, &late), (5, &late), (7, &middle), (9, &middle)] {
+        let [asker, target] = names.each_ref().map(String::as_str);
         let (input, set) = slow_names()[i].clone();
         t.graph(&format!("{input}, all edges"), &set, &everything(), [asker, target]);
         t.access(input, set, Vec::new(), [asker, target, "~"]);

@@ -56,10 +56,10 @@ fn strings(from: &[String]) -> Vec<&str> {
     from.iter().map(String::as_str).collect()
 }
 
-/// A system of 2 to 12 module names, one in forty of 13 to 256, in half of them in places. It is never longer than a set may be.
+/// A system of 2 to 12 module names, one in forty of 13 to 512, in half of them in places. It is never longer than a set may be.
 pub fn system(r: &mut Random) -> System {
     loop {
-        let n = if r.below(40) == 0 { r.within(13, 256) } else { r.within(2, 12) };
+        let n = if r.below(40) == 0 { r.within(13, 512) } else { r.within(2, 12) };
         let s = system_of(r, n);
         if s.set.len() <= 65_535 && s.request.len() <= 65_535 {
             return s;
@@ -88,17 +88,20 @@ fn written(r: &mut Random, names: Vec<String>, absent: Vec<String>, share: Optio
     s
 }
 
-/// A system of 100 to 256 module names, which share their first bytes, 7 to 9 or 15 to 17 of them or more, and of which many are
+/// A system of 100 to 512 module names, which share their first bytes, 7 to 9 or 15 to 17 of them or more, and of which many are
 /// prefixes of others; in any order, and in half of the systems in places. It is never longer than a set may be.
 pub fn many(r: &mut Random) -> System {
     loop {
         let common = *r.choose(&[0, 1, 6, 7, 8, 9, 14, 15, 16, 17, 24, 60, 120, 246]);
         let letters = *r.choose(&[&b"ab"[..], b"!~", b"!-Az~", b"abcdefghijklmnop"]);
         let any = |r: &mut Random| {
-            let tail = (0..r.within(usize::from(common == 0), 7)).map(|_| char::from(*r.choose(letters)));
+            // a package's name is two bytes longer
+            let tail = (0..r.within(usize::from(common == 0), if common == 246 { 7 } else { 9 }))
+                .map(|_| char::from(*r.choose(letters)));
             "java.bas".chars().cycle().take(common).chain(tail).collect::<String>()
         };
-        let n = r.within(100, 256).min(60_000 / (common + 16));
+        let n = if r.chance(25) { 512 } else { r.within(100, 512) };
+        let n = n.min(60_000 / (common + 16));
         let mut names = BTreeSet::from(["java.base".to_string()]);
         for _ in 0..20 * n {
             if names.len() < n {
@@ -122,7 +125,7 @@ pub fn many(r: &mut Random) -> System {
 }
 
 /// The modules of a set by the index of their names, and None where a place starts. Each name stands in one place; some stand in
-/// others too, and there the first hides the rest. There are at most 256 modules in all.
+/// others too, and there the first hides the rest. There are at most 512 modules in all.
 fn placed(r: &mut Random, n: usize) -> Vec<Option<usize>> {
     if r.chance(50) {
         return (0..n).map(Some).collect();
@@ -133,7 +136,7 @@ fn placed(r: &mut Random, n: usize) -> Vec<Option<usize>> {
         places[k].push(i);
     }
     let again = *r.choose(&[0, 5, 20, 50]); // of 100 names, in each other place
-    let mut room = 256 - n;
+    let mut room = 512 - n;
     let mut all = Vec::new();
     for (k, place) in places.iter_mut().enumerate() {
         for i in 0..n {
@@ -357,18 +360,28 @@ pub fn question(r: &mut Random, s: &System) -> Question {
     [asker, target, package]
 }
 
-/// Words of any configuration, dense or thin, also at positions that the set does not have.
-pub fn words(r: &mut Random) -> [u64; WORDS] {
+/// Words of any configuration, dense or thin, also at positions that the set does not have, in every bit of the ninth words and
+/// beyond.
+pub fn words(r: &mut Random) -> Vec<u64> {
     let thin = r.below(4);
-    let mut words = [0; WORDS];
-    for (i, w) in words.iter_mut().enumerate() {
-        *w = r.next();
-        let times = if i < 4 { thin.min(1) } else { thin };
-        for _ in 0..times {
-            *w &= r.next();
-        }
+    let word = |r: &mut Random, times: usize| (0..times).fold(r.next(), |w, _| w & r.next());
+    (0..WORDS + r.below(3)).map(|i| word(r, if i < 8 { thin.min(1) } else { thin })).collect()
+}
+
+/// Sets bits that are to be ignored: of members, rows and ninth words at positions where there is no module to see, edges to such
+/// positions, upper bits of all ninth words.
+pub fn junk(r: &mut Random, words: &mut [u64], observable: &[bool]) {
+    let of = |i: usize| if observable.get(i) == Some(&true) { 0 } else { 1 << (i % 64) };
+    let others: Vec<u64> = (0..8).map(|k| (0..64).fold(0, |w, i| w | of(64 * k + i))).collect();
+    let thin = r.below(3);
+    let mut put = |w: &mut u64, bits: u64| *w |= bits & (0..thin).fold(r.next(), |w, _| w & r.next());
+    (0..8).for_each(|k| put(&mut words[k], others[k]));
+    for i in 0..512 {
+        let own = &mut words[8 + 9 * i..][..9];
+        let hidden = of(i) != 0;
+        (0..8).for_each(|k| put(&mut own[k], if hidden { u64::MAX } else { others[k] }));
+        put(&mut own[8], if hidden { u64::MAX } else { !1 });
     }
-    words
 }
 
 /// A jar name, the manifest's name and packages, some of them twice.

@@ -1,7 +1,7 @@
 //! Compares the library with the original on random inputs: compare SYSTEMS QUESTIONS JARS SEED [CLASS FILE...]. The original does
 //! not know requests without ST: second.rs resolves these.
 //!
-//! SYSTEMS sets with their requests and a tenth as many of 100 to 256 modules, QUESTIONS for each of them over the resolved and over
+//! SYSTEMS sets with their requests and a tenth as many of 100 to 512 modules, QUESTIONS for each of them over the resolved and over
 //! an arbitrary configuration, JARS jar names and as many class files, and the class files given. The seeds of the inputs count up
 //! from SEED, so a difference of seed S is met again with SEED S. It prints how many there were of each kind, and ends with status 1
 //! if there is a difference.

@@ -1,5 +1,5 @@
-//! Sets and requests as the original's descriptors, and descriptors as records: a second reading of document 01 and, for places
-//! and ST, of document 02.
+//! Sets and requests as the original's descriptors, and descriptors as records: a second reading of document 01 and, for places,
+//! ST and 512 modules, of document 02.
 use crate::module::descriptor::{Exports, ModuleDescriptor, ModuleFlags, Opens, Provides, Requires, RequiresFlags};
 use crate::module::reference::{ModuleReference, ModuleSource};
 use std::collections::HashSet;
@@ -117,7 +117,7 @@ pub fn parse_set(b: &[u8]) -> Result<Vec<ModuleReference>, Bad> {
                 Some(Found { descriptor: d, automatic: auto == 1, location: location.clone() })
             })()
             .ok_or(bad(1, at))?;
-            if found.len() == 256 {
+            if found.len() == 512 {
                 return Err(bad(2, at));
             }
             let name = &m.descriptor.name;

@@ -1,19 +1,31 @@
-//! A second reading of resolution, apart from the library and from the original: document 01 and, for places and ST, U2 and U6 of
-//! document 02. It takes sets and requests that the check takes.
+//! A second reading of resolution, apart from the library and from the original: document 01 and, for places, ST and the
+//! words, U2, U6 and U12 of document 02. It takes sets and requests that the check takes.
 use saqhovune::form::{Record, records};
-use saqhovune::{Configuration, Input, Refusal, WORDS};
+use saqhovune::{Configuration, Input, Refusal};
 use std::collections::{BTreeMap, BTreeSet, VecDeque};
 
 /// ALL-UNNAMED as the target of an edge.
-pub const UNNAMED: usize = 256;
+pub const UNNAMED: usize = 512;
+
+/// Eight words of members, then for each position eight of its edges and one whose lowest bit is ALL-UNNAMED.
+pub const NEEDED: usize = 8 + 512 * 9;
+
+/// The words of these members and edges; all else is zero.
+pub fn words(members: &[usize], edges: &[(usize, usize)]) -> Vec<u64> {
+    let mut words = vec![0; NEEDED];
+    for i in members {
+        words[i / 64] |= 1 << (i % 64);
+    }
+    for (i, j) in edges {
+        let (word, bit) = if *j == UNNAMED { (8, 0) } else { (j / 64, j % 64) };
+        words[8 + 9 * i + word] |= 1 << bit;
+    }
+    words
+}
 
 /// A configuration of these members and edges.
 pub fn configuration(members: &[usize], edges: &[(usize, usize)]) -> Configuration {
-    let mut words = [0u64; WORDS];
-    let mut set = |at: usize, i: usize| words[at + i / 64] |= 1 << (i % 64);
-    members.iter().for_each(|i| set(0, *i));
-    edges.iter().for_each(|(i, j)| if *j == UNNAMED { set(1028, *i) } else { set(4 + 4 * i, *j) });
-    Configuration::from_words(words)
+    Configuration::from_words(words(members, edges).try_into().expect("as many words as the crate says"))
 }
 
 /// A name, and where it starts.

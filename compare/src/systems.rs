@@ -2,17 +2,18 @@
 use crate::generate::{self, System};
 use crate::module::access::AccessCheck;
 use crate::module::graph::ModuleGraph;
-use crate::module::resolution::ResolvedConfiguration;
+use crate::module::resolution::{ResolvedConfiguration, ResolvedModule};
 use crate::original::{Inputs, listing};
 use crate::random::Random;
 use crate::records::{parse_both, text};
 use crate::report::Report;
-use crate::second;
+use crate::second::{self, NEEDED};
 use saqhovune::form::{self, Record, module, place, record, records, with_static};
-use saqhovune::{AccessKind, Configuration, Input, Refusal, Row, WORDS};
-use std::collections::BTreeSet;
+use saqhovune::{AccessKind, Configuration, Input, Refusal, Row};
+use std::collections::{BTreeSet, HashMap};
 
 const PATTERN: u64 = 0x5A5A_A5A5_5A5A_A5A5;
+const TOO_FEW: Refusal = Refusal::OutputTooShort { needed: NEEDED };
 
 /// Compares the system of a seed and, at every tenth seed, one of many modules.
 pub fn compare(report: &mut Report, seed: u64, questions: usize) {
@@ -39,16 +40,12 @@ fn compare_system(report: &mut Report, seed: u64, r: &mut Random, s: &System, qu
     let kinds = kinds(s, &inputs, &second);
     kinds.iter().for_each(|kind| report.count(kind[0]));
 
-    let mut words = [PATTERN; WORDS + 1];
+    let mut words = vec![PATTERN; NEEDED + r.below(4)];
     let library = saqhovune::resolve_into(&s.set, &s.request, &mut words);
-    report.hold("words past the last left as they were", seed, &"", words[WORDS] == PATTERN);
-    let mut short = [PATTERN; WORDS - 1];
-    let refused = saqhovune::resolve_into(&s.set, &s.request, &mut short);
-    let expected = library.and(Err(Refusal::OutputTooShort { needed: WORDS }));
-    report.compare("resolutions into too few words", seed, &"", refused, expected);
-    report.hold("too few words left as they were", seed, &"", short == [PATTERN; WORDS - 1]);
+    report.hold("words past the last left as they were", seed, &"", words[NEEDED..].iter().all(|w| *w == PATTERN));
+    few_words(report, seed, r, &s.set, &s.request);
 
-    let resolved = library.map(|_| Configuration::from_words(words[..WORDS].try_into().unwrap()));
+    let resolved = library.map(|_| configuration(&words));
     let refusals = (resolved.as_ref().err(), second.as_ref().err());
     report.hold("resolutions (by a second reading)", seed, &refusals, resolved == second);
     let with_static = inputs.request.with_static;
@@ -60,10 +57,12 @@ fn compare_system(report: &mut Report, seed: u64, r: &mut Random, s: &System, qu
             let c = resolved.expect("the library accepts");
             report.compare("numbers of members", seed, &"", (n, c.len()), (original.len(), original.len()));
             report.compare("listings", seed, &"", listing_of(s, &names, &c), listing(&original));
-            let others = (0..256).filter(|i| !c.contains(*i));
-            let empty = |i: usize| !c.reads_unnamed(i) && (0..256).all(|j| !c.reads(i, j));
-            report.hold("rows of others than members empty", seed, &"", others.into_iter().all(empty));
-            ask(report, seed, r, s, &names, &c, &original, questions, "resolved");
+            report.hold("whole words", seed, &"", words[..NEEDED] == words_of(&names, &original));
+            if r.chance(50) {
+                report.count("configurations asked with bits to be ignored");
+                generate::junk(r, &mut words, &inputs.observable());
+            }
+            ask(report, seed, r, s, &names, &words, &original, questions, "resolved");
         }
         (Err(e), Err(cause)) => {
             report.count(match e {
@@ -73,7 +72,7 @@ fn compare_system(report: &mut Report, seed: u64, r: &mut Random, s: &System, qu
                 _ => "systems refused otherwise",
             });
             kinds.iter().for_each(|kind| report.count(kind[2]));
-            report.hold("words left as they were on a refusal", seed, &"", words == [PATTERN; WORDS + 1]);
+            report.hold("words left as they were on a refusal", seed, &"", words.iter().all(|w| *w == PATTERN));
             report.hold("causes of the library true", seed, &e, cause_is_true(s, &inputs, &e));
             if with_static {
                 report.hold("causes of the original true", seed, &cause, inputs.is_true(&cause));
@@ -95,9 +94,50 @@ fn compare_system(report: &mut Report, seed: u64, r: &mut Random, s: &System, qu
     damaged(report, seed, r, s, which);
     damaged_places(report, seed, r, s);
     damaged_static(report, seed, r, s);
-    let any = Configuration::from_words(generate::words(r));
-    let original = inputs.configured(&any);
+    let any = generate::words(r);
+    let original = inputs.configured(&configuration(&any));
     ask(report, seed, r, s, &names, &any, &original, questions, "arbitrary");
+}
+
+/// The configuration of lent words.
+fn configuration(words: &[u64]) -> Configuration {
+    Configuration::from_words(words[..NEEDED].to_vec().try_into().expect("as many words as the crate says"))
+}
+
+/// The words of what the original resolves, by the names of the positions.
+fn words_of(names: &[String], original: &ResolvedConfiguration) -> Vec<u64> {
+    let positions: HashMap<&str, usize> = names.iter().enumerate().map(|(i, n)| (n.as_str(), i)).collect();
+    let position = |n: &str| if n == "ALL-UNNAMED" { second::UNNAMED } else { positions[n] };
+    let members: Vec<usize> = original.modules().map(|m| position(m.name())).collect();
+    let edges = |m: &ResolvedModule| m.reads().iter().map(|to| (position(m.name()), position(to))).collect::<Vec<_>>();
+    second::words(&members, &original.modules().flat_map(edges).collect::<Vec<_>>())
+}
+
+/// What each call that is lent words is refused with.
+fn refusals(set: &[u8], request: &[u8], words: &mut [u64]) -> [Option<Refusal>; 7] {
+    let ask = |words: &[u64], kind| saqhovune::check_access(set, request, words, kind, b"a", b"a", b"").err();
+    [
+        ask(words, AccessKind::Access),
+        ask(words, AccessKind::Reflection),
+        saqhovune::can_read(set, words, b"a", b"a").err(),
+        saqhovune::find_module_for_package(set, words, b"p").err(),
+        saqhovune::readers_of(set, words, b"a").err(),
+        saqhovune::transitive_reads(set, words, b"a").err(),
+        saqhovune::resolve_into(set, request, words).err(),
+    ]
+}
+
+/// Too few words are refused behind the records and before all else, and are left as they were.
+fn few_words(report: &mut Report, seed: u64, r: &mut Random, set: &[u8], request: &[u8]) {
+    let any = r.below(NEEDED);
+    let count = *r.choose(&[0, 1, 1_032, any, NEEDED - 1, NEEDED - 1]);
+    let mut words = vec![PATTERN; count];
+    let found = refusals(set, request, &mut words);
+    let both = checked(set, request).err();
+    let alone = checked(set, &[]).err();
+    let expected = [both, both, alone, alone, alone, alone, both].map(|e| e.or(Some(TOO_FEW)));
+    report.compare("calls with too few words", seed, &count, found, expected);
+    report.hold("too few words left as they were", seed, &count, words.iter().all(|w| *w == PATTERN));
 }
 
 /// The second reading is held to the original. Without ST the original is asked without the static requirements for the members
@@ -156,10 +196,22 @@ fn kinds(s: &System, inputs: &Inputs, second: &Result<Configuration, Refusal>) -
     let is_large = inputs.modules.len() >= 100;
     if is_large {
         let kind = [
-            "systems of 100 to 256 modules",
-            "systems of 100 to 256 modules accepted",
-            "systems of 100 to 256 modules refused (5 to 7)",
+            "systems of 100 to 512 modules",
+            "systems of 100 to 512 modules accepted",
+            "systems of 100 to 512 modules refused (5 to 7)",
         ];
+        kinds.push(kind);
+    }
+    if inputs.modules.len() > 256 {
+        let kind = [
+            "systems of 257 to 512 modules",
+            "systems of 257 to 512 modules accepted",
+            "systems of 257 to 512 modules refused (5 to 7)",
+        ];
+        kinds.push(kind);
+    }
+    if inputs.modules.len() == 512 {
+        let kind = ["systems of 512 modules", "systems of 512 modules accepted", "systems of 512 modules refused (5 to 7)"];
         kinds.push(kind);
     }
     if inputs.observable().contains(&false) {
@@ -171,9 +223,9 @@ fn kinds(s: &System, inputs: &Inputs, second: &Result<Configuration, Refusal>) -
         kinds.push(kind);
         if is_large {
             let kind = [
-                "systems of 100 to 256 modules, some hidden",
-                "systems of 100 to 256 modules, some hidden, accepted",
-                "systems of 100 to 256 modules, some hidden, refused (5 to 7)",
+                "systems of 100 to 512 modules, some hidden",
+                "systems of 100 to 512 modules, some hidden, accepted",
+                "systems of 100 to 512 modules, some hidden, refused (5 to 7)",
             ];
             kinds.push(kind);
         }
@@ -196,11 +248,11 @@ fn damaged(report: &mut Report, seed: u64, r: &mut Random, s: &System, which: In
             }
         }
     }
-    refused(report, seed, &which, &set, &request);
+    refused(report, seed, r, &which, &set, &request);
 }
 
-/// A set with PL put in and taken out, with a body, up to the eighth and the ninth place, with names again, and up to the 256th
-/// and the 257th module.
+/// A set with PL put in and taken out, with a body, up to the eighth and the ninth place, with names again, and up to the 512th
+/// and the 513th module.
 fn damaged_places(report: &mut Report, seed: u64, r: &mut Random, s: &System) {
     let mut all: Vec<Vec<u8>> = records(&s.set).map(|x| record(x.mark.try_into().unwrap(), x.body)).collect();
     let is = |x: &[u8], mark: &[u8]| x.starts_with(mark);
@@ -231,7 +283,7 @@ fn damaged_places(report: &mut Report, seed: u64, r: &mut Random, s: &System) {
             }
             8 => {
                 // modules in a new place, some of them hidden
-                let more = r.within(256, 257).saturating_sub(all.iter().filter(|x| is(x, b"MO")).count());
+                let more = r.within(512, 513).saturating_sub(all.iter().filter(|x| is(x, b"MO")).count());
                 all.push(place());
                 all.extend((0..more).map(|i| module(s.names.get(i).unwrap_or(&format!("more{i}")))));
             }
@@ -242,7 +294,7 @@ fn damaged_places(report: &mut Report, seed: u64, r: &mut Random, s: &System) {
             }
         }
     }
-    refused(report, seed, &"places", &all.concat(), &s.request);
+    refused(report, seed, r, &"places", &all.concat(), &s.request);
 }
 
 /// A request with ST put in, also with a body, or a set with ST.
@@ -258,21 +310,26 @@ fn damaged_static(report: &mut Report, seed: u64, r: &mut Random, s: &System) {
             _ => request.insert(r.below(request.len() + 1), with_static()),
         }
     }
-    refused(report, seed, &"ST", &set.concat(), &request.concat());
+    refused(report, seed, r, &"ST", &set.concat(), &request.concat());
 }
 
 /// Refusals 1 to 3, or the number of modules, as records.rs, a second reading of the documents, has them.
-fn refused(report: &mut Report, seed: u64, of: &dyn std::fmt::Debug, set: &[u8], request: &[u8]) {
-    let expected = parse_both(set, request).map(|(modules, _)| modules.len()).map_err(|bad| match bad.number {
+fn checked(set: &[u8], request: &[u8]) -> Result<usize, Refusal> {
+    parse_both(set, request).map(|(modules, _)| modules.len()).map_err(|bad| match bad.number {
         1 => Refusal::Malformed { input: if bad.which == "set" { Input::Set } else { Input::Request }, offset: bad.offset },
         2 => Refusal::TooLarge { offset: bad.offset },
         _ => Refusal::Repeated { offset: bad.offset },
-    });
+    })
+}
+
+fn refused(report: &mut Report, seed: u64, r: &mut Random, of: &dyn std::fmt::Debug, set: &[u8], request: &[u8]) {
+    let expected = checked(set, request);
+    few_words(report, seed, r, set, request);
     report.compare("checks of damaged inputs (by a second reading)", seed, of, saqhovune::check(set, request), expected);
     if let Err(e) = expected {
         report.compare("resolutions of damaged inputs", seed, of, saqhovune::resolve(set, request), Err(e));
         for kind in [AccessKind::Access, AccessKind::Reflection] {
-            let verdict = saqhovune::check_access(set, request, &Configuration::from_words([0; WORDS]), kind, b"a", b"a", b"");
+            let verdict = saqhovune::check_access(set, request, &[0u64; NEEDED], kind, b"a", b"a", b"");
             report.compare("questions of damaged inputs", seed, of, verdict, Err(e));
         }
     }
@@ -303,13 +360,13 @@ fn refused(report: &mut Report, seed: u64, of: &dyn std::fmt::Debug, set: &[u8],
             Err(Refusal::Malformed { .. }) => "damaged inputs with PL refused (1 elsewhere)",
             Err(Refusal::TooLarge { offset: 0 }) => "damaged inputs with PL refused (2 by length)",
             Err(Refusal::TooLarge { offset }) if at(offset) => "damaged inputs with PL refused (2 at the ninth place)",
-            Err(Refusal::TooLarge { .. }) => "damaged inputs with PL refused (2 at the 257th module)",
+            Err(Refusal::TooLarge { .. }) => "damaged inputs with PL refused (2 at the 513th module)",
             Err(_) => "damaged inputs with PL refused (3)",
         });
     }
 }
 
-/// A name for each of the 256 positions, also for those of hidden modules and those that the set does not have.
+/// A name for each of the 512 positions, also for those of hidden modules and those that the set does not have.
 fn names(inputs: &Inputs) -> Vec<String> {
     let observable = inputs.observable();
     let name = |i: usize| match inputs.modules.get(i) {
@@ -317,7 +374,7 @@ fn names(inputs: &Inputs) -> Vec<String> {
         Some(m) => format!("(position {i}, a hidden {})", m.name()),
         None => format!("(position {i})"),
     };
-    (0..256).map(name).collect()
+    (0..512).map(name).collect()
 }
 
 fn listing_of(s: &System, names: &[String], c: &Configuration) -> String {
@@ -396,7 +453,7 @@ fn ask(
     r: &mut Random,
     s: &System,
     names: &[String],
-    c: &Configuration,
+    words: &[u64],
     original: &ResolvedConfiguration,
     questions: usize,
     which: &str,
@@ -409,7 +466,7 @@ fn ask(
         let q = generate::question(r, s);
         let [a, t, p] = q.each_ref().map(|b| text(b));
         let of = (which, &a, &t, &p);
-        let verdict = saqhovune::check_access(&s.set, &s.request, c, AccessKind::Access, &q[0], &q[1], &q[2]);
+        let verdict = saqhovune::check_access(&s.set, &s.request, words, AccessKind::Access, &q[0], &q[1], &q[2]);
         let verdict = format!("{:?}", verdict.expect("the inputs are well-formed"));
         let expected = format!("{:?}", access.check_access(&a, &t, &p));
         report.count(match expected.as_str() {
@@ -418,21 +475,21 @@ fn ask(
             _ => "verdicts NotExported",
         });
         report.compare(over("verdicts, resolved", "verdicts, arbitrary"), seed, &of, verdict, expected);
-        let verdict = saqhovune::check_access(&s.set, &s.request, c, AccessKind::Reflection, &q[0], &q[1], &q[2]);
+        let verdict = saqhovune::check_access(&s.set, &s.request, words, AccessKind::Reflection, &q[0], &q[1], &q[2]);
         let verdict = format!("{:?}", verdict.expect("the inputs are well-formed"));
         let expected = format!("{:?}", access.check_reflection_access(&a, &t, &p));
         report.compare(over("reflection verdicts, resolved", "reflection verdicts, arbitrary"), seed, &of, verdict, expected);
-        let reads = saqhovune::can_read(&s.set, c, &q[0], &q[1]);
+        let reads = saqhovune::can_read(&s.set, words, &q[0], &q[1]);
         report.compare(over("can_read, resolved", "can_read, arbitrary"), seed, &of, reads, Ok(access.can_read(&a, &t)));
-        owner(report, seed, s, names, c, original, &q[2], over("owners, resolved", "owners, arbitrary"));
+        owner(report, seed, s, names, words, original, &q[2], over("owners, resolved", "owners, arbitrary"));
     }
     for _ in 0..questions.div_ceil(4) {
         let name = generate::asked_name(r, s);
         let n = text(&name);
-        let row = saqhovune::readers_of(&s.set, c, &name).expect("the set is well-formed");
+        let row = saqhovune::readers_of(&s.set, words, &name).expect("the set is well-formed");
         let expected = graph.readers_of(&n).cloned().unwrap_or_default();
         report.compare(over("readers_of, resolved", "readers_of, arbitrary"), seed, &n, row_names(names, &row), expected);
-        let row = saqhovune::transitive_reads(&s.set, c, &name).expect("the set is well-formed");
+        let row = saqhovune::transitive_reads(&s.set, words, &name).expect("the set is well-formed");
         let expected = graph.transitive_reads(&n);
         report.compare(
             over("transitive_reads, resolved", "transitive_reads, arbitrary"),
@@ -451,7 +508,7 @@ fn owner(
     seed: u64,
     s: &System,
     names: &[String],
-    c: &Configuration,
+    words: &[u64],
     original: &ResolvedConfiguration,
     package: &[u8],
     kind: &'static str,
@@ -461,7 +518,7 @@ fn owner(
         report.count("skipped: package of several members");
         return;
     }
-    let found = saqhovune::find_module_for_package(&s.set, c, package).expect("the set is well-formed");
+    let found = saqhovune::find_module_for_package(&s.set, words, package).expect("the set is well-formed");
     let found = found.map(|i| names[i].clone());
     report.compare(kind, seed, &p, found, original.find_module_for_package(&p).map(String::from));
 }

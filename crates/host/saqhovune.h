@@ -12,14 +12,14 @@
  * row and particulars included, overlaps no other argument; nobody else writes an argument during the call; a bool is 0 or 1; there is
  * enough stack.
  *
- * Stack on x86-64, by the frames of the compiled functions and as measured, rounded up: 710 KiB for saqhovune_resolve, 320 KiB for
- * saqhovune_from_class_file, 145 KiB for saqhovune_automatic_from_jar_name, 40 KiB for every other function.
+ * Stack on x86-64, by the frames of the compiled functions and as measured, rounded up: 710 KiB for saqhovune_resolve,
+ * 320 KiB for saqhovune_from_class_file, 145 KiB for saqhovune_automatic_from_jar_name, 40 KiB for every other function.
  *
  * Each function returns 0 for an answer, else the number of a refusal (document 01), and always writes all four words of
  * particulars, unused ones as 0:
  *   0   what the function answers
  *   1   which input is malformed (0 set, 1 request, 2 package records), the offset of the record
- *   2   the offset of the record (the 257th module, hidden ones counted, or the PL of the ninth place), or 0
+ *   2   the offset of the record (the 513th module, hidden ones counted, or the PL of the ninth place), or 0
  *   3   the offset of the record (a module whose name stands before in its place, or is ALL-UNNAMED)
  *   4   how many bytes or words are needed
  *   5   which input has the absent name (0 set, 1 request), where it starts, its length
@@ -29,10 +29,12 @@
  *   9, 10   nothing
  * Nothing but the particulars is written on a refusal.
  *
- * A configuration is 1,032 words: 4 of members, 1,024 of read edges, four words for each position, and 4 of the modules that read
- * ALL-UNNAMED. The bit of position i is bit i % 64 of word i / 64. Bits at positions of hidden modules are ignored where words
- * are read, as are those at positions past the last module, and are 0 in what saqhovune_resolve writes. Words past the first 1,032
- * are neither read nor written. Where a function takes them to read, fewer are number 4 before anything else is looked at.
+ * A configuration is 4,616 words that the caller lends. Words 0 to 7 are the members. For the module at position i the words from
+ * 8 + 9 i to 8 + 9 i + 7 are its read edges, and the lowest bit of word 8 + 9 i + 8 says whether it reads ALL-UNNAMED. Of eight such
+ * words position j is bit j % 64 of word j / 64. saqhovune_resolve writes all 4,616 words or none: all other bits are 0, and so are the
+ * nine words of a position that is no member. Where words are read, the other bits of each ninth word are ignored, and so are bits at
+ * positions of hidden modules and past the last module. Words past the first 4,616 are neither read nor written. Fewer words are
+ * number 4 with 4,616, tested once the records are (1 to 3), and in saqhovune_resolve before 5 to 7.
  */
 #ifndef SAQHOVUNE_H
 #define SAQHOVUNE_H
@@ -41,7 +43,7 @@
 #include <stddef.h>
 #include <stdint.h>
 
-#define SAQHOVUNE_WORDS 1032
+#define SAQHOVUNE_WORDS 4616
 
 #ifdef __cplusplus
 extern "C" {
@@ -51,35 +53,35 @@ extern "C" {
 uint64_t saqhovune_check(const uint8_t *set, size_t set_len, const uint8_t *request, size_t request_len,
                          uint64_t particulars[4]);
 
-/* Resolves a set and a request (1 to 3, 5 to 7, then 4) into the first 1,032 words. Answers the number of resolved modules. */
+/* Resolves a set and a request (1 to 3, 4, 5 to 7) into the first 4,616 words. Answers the number of resolved modules. */
 uint64_t saqhovune_resolve(const uint8_t *set, size_t set_len, const uint8_t *request, size_t request_len, uint64_t *words,
                            size_t words_len, uint64_t particulars[4]);
 
-/* Whether the asker may access the package of the target, or, where `reflection` is true, reflect on it (4, 1 to 3). Answers 0 Allowed,
+/* Whether the asker may access the package of the target, or, where `reflection` is true, reflect on it (1 to 3, 4). Answers 0 Allowed,
  * 1 NotReadable, 2 NotExported (access) or 3 NotOpened (reflection). */
 uint64_t saqhovune_check_access(const uint8_t *set, size_t set_len, const uint8_t *request, size_t request_len,
                                 const uint64_t *words, size_t words_len, bool reflection, const uint8_t *asker, size_t asker_len,
                                 const uint8_t *target, size_t target_len, const uint8_t *package, size_t package_len,
                                 uint64_t particulars[4]);
 
-/* Whether a module can read another (4, 1 to 3 of the set). Answers 1 where the names are equal, known or not, where `to` is
+/* Whether a module can read another (1 to 3 of the set, 4). Answers 1 where the names are equal, known or not, where `to` is
  * java.base, or where a member has a read edge to the other; else 0. */
 uint64_t saqhovune_can_read(const uint8_t *set, size_t set_len, const uint64_t *words, size_t words_len, const uint8_t *from,
                             size_t from_len, const uint8_t *to, size_t to_len, uint64_t particulars[4]);
 
-/* The owner of a package (4, 1 to 3 of the set). Answers 1 and the owner's position, or 0. */
+/* The owner of a package (1 to 3 of the set, 4). Answers 1 and the owner's position, or 0. */
 uint64_t saqhovune_find_module_for_package(const uint8_t *set, size_t set_len, const uint64_t *words, size_t words_len,
                                            const uint8_t *package, size_t package_len, uint64_t particulars[4]);
 
-/* The members that read the module of this name, or ALL-UNNAMED (4, 1 to 3 of the set), as a row of positions; none where the
+/* The members that read the module of this name, or ALL-UNNAMED (1 to 3 of the set, 4), as a row of eight words; none where the
  * name is not known. Answers 0. */
 uint64_t saqhovune_readers_of(const uint8_t *set, size_t set_len, const uint64_t *words, size_t words_len, const uint8_t *name,
-                              size_t name_len, uint64_t row[4], uint64_t particulars[4]);
+                              size_t name_len, uint64_t row[8], uint64_t particulars[4]);
 
-/* What one read edge or more lead to from the module of this name (4, 1 to 3 of the set), as a row of positions; none where the
+/* What one read edge or more lead to from the module of this name (1 to 3 of the set, 4), as a row of eight words; none where the
  * name is not that of a member. Answers 1 where ALL-UNNAMED is among them, else 0. */
 uint64_t saqhovune_transitive_reads(const uint8_t *set, size_t set_len, const uint64_t *words, size_t words_len,
-                                    const uint8_t *name, size_t name_len, uint64_t row[4], uint64_t particulars[4]);
+                                    const uint8_t *name, size_t name_len, uint64_t row[8], uint64_t particulars[4]);
 
 /* Writes the records of the module that a class file describes (2, 8, 2, 4). Answers the number of bytes written. */
 uint64_t saqhovune_from_class_file(const uint8_t *file, size_t file_len, uint8_t *out, size_t out_len, uint64_t particulars[4]);

@@ -1,5 +1,4 @@
-//! Questions over a configuration.
-use crate::configuration::Configuration;
+//! Questions over a configuration, or over the words of one that a host lends.
 use crate::raw;
 use crate::refusal::{told, Refusal};
 
@@ -37,17 +36,17 @@ pub enum AccessKind {
     Reflection,
 }
 
-/// Whether the asker may access the package of the target, or reflect on it (1 to 3).
+/// Whether the asker may access the package of the target, or reflect on it (1 to 3, 4).
 pub fn check_access(
     set: &[u8],
     request: &[u8],
-    configuration: &Configuration,
+    configuration: &(impl AsRef<[u64]> + ?Sized),
     kind: AccessKind,
     asker: &[u8],
     target: &[u8],
     package: &[u8],
 ) -> Result<Verdict, Refusal> {
-    let words = configuration.words();
+    let words = configuration.as_ref();
     let reflection = match kind {
         AccessKind::Access => false,
         AccessKind::Reflection => true,
@@ -74,10 +73,10 @@ pub fn check_access(
     Ok(Verdict::of(answer[0]))
 }
 
-/// Whether a module can read another (1 to 3 of the set): the names are equal, known or not, the other is java.base, or a member
+/// Whether a module can read another (1 to 3 of the set, 4): the names are equal, known or not, the other is java.base, or a member
 /// has a read edge to it.
-pub fn can_read(set: &[u8], configuration: &Configuration, from: &[u8], to: &[u8]) -> Result<bool, Refusal> {
-    let words = configuration.words();
+pub fn can_read(set: &[u8], configuration: &(impl AsRef<[u64]> + ?Sized), from: &[u8], to: &[u8]) -> Result<bool, Refusal> {
+    let words = configuration.as_ref();
     // SAFETY: as above.
     let answer = told(|particulars| unsafe {
         raw::saqhovune_can_read(
@@ -95,9 +94,13 @@ pub fn can_read(set: &[u8], configuration: &Configuration, from: &[u8], to: &[u8
     Ok(answer[0] == 1)
 }
 
-/// The position of the member that owns a package, if one does (1 to 3 of the set).
-pub fn find_module_for_package(set: &[u8], configuration: &Configuration, package: &[u8]) -> Result<Option<usize>, Refusal> {
-    let words = configuration.words();
+/// The position of the member that owns a package, if one does (1 to 3 of the set, 4).
+pub fn find_module_for_package(
+    set: &[u8],
+    configuration: &(impl AsRef<[u64]> + ?Sized),
+    package: &[u8],
+) -> Result<Option<usize>, Refusal> {
+    let words = configuration.as_ref();
     // SAFETY: as above.
     let answer = told(|particulars| unsafe {
         raw::saqhovune_find_module_for_package(

@@ -5,8 +5,8 @@
 //! leaves a lent output as it was. A module is told by its position in the set, from 0; [`form::module_names`] lists the names
 //! in that order. A static requirement starts nothing unless the request has [`form::with_static`].
 //!
-//! A call takes up to 710 KiB of stack in the library (`resolve`; `saqhovune.h` has a figure for each), and some here: a thread
-//! of 1 MiB is enough for each function, also in a debug build, and no smaller one is tested.
+//! A call takes up to 710 KiB of stack in the library (`resolve`; `saqhovune.h` has a figure for each), and some
+//! here: a thread of 1 MiB is enough for each function, also in a debug build, and no smaller one is tested.
 //!
 //! ```
 //! use saqhovune::form::{exports, module, module_names, package, requires, root};

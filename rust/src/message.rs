@@ -51,7 +51,7 @@ impl Refusal {
             Refusal::TooLarge { offset: 0 } if set.len() > LONGEST => Some("the set is longer than 65,535 bytes".into()),
             Refusal::TooLarge { offset: 0 } if request.len() > LONGEST => Some("the request is longer than 65,535 bytes".into()),
             Refusal::TooLarge { offset: offset @ 1.. } => match records(set).find(|r| r.offset == offset)?.mark {
-                b"MO" => Some(format!("module 257 at offset {offset}: a set has at most 256 modules")),
+                b"MO" => Some(format!("module 513 at offset {offset}: a set has at most 512 modules")),
                 b"PL" => Some(format!("the set has more than eight places, the ninth at offset {offset}")),
                 _ => None,
             },

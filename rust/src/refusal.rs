@@ -33,9 +33,9 @@ pub enum Refusal {
         /// The offset of the record.
         offset: usize,
     },
-    /// 2: an input, or a record to be written, is too long, or the set has more than 256 modules or more than eight places.
+    /// 2: an input, or a record to be written, is too long, or the set has more than 512 modules or more than eight places.
     TooLarge {
-        /// The offset of the 257th module, hidden ones counted, or of the PL of the ninth place, else 0.
+        /// The offset of the 513th module, hidden ones counted, or of the PL of the ninth place, else 0.
         offset: usize,
     },
     /// 3: a module has the name of an earlier one in its place, or ALL-UNNAMED.
@@ -43,9 +43,9 @@ pub enum Refusal {
         /// The offset of its record in the set.
         offset: usize,
     },
-    /// 4: the output is too short.
+    /// 4: the output is too short, or the words lent for a configuration are too few.
     OutputTooShort {
-        /// How many bytes, or words of a configuration, the answer takes.
+        /// How many bytes the answer takes, or words a configuration has.
         needed: usize,
     },
     /// 5: a module is absent.
@@ -143,13 +143,13 @@ impl fmt::Display for Refusal {
                 write!(f, "an input or a record to be written is longer than 65,535 bytes, or a jar name is longer than 255")
             }
             Refusal::TooLarge { offset } => {
-                write!(f, "module 257 or place 9 at offset {offset}: a set has at most 256 modules and eight places")
+                write!(f, "module 513 or place 9 at offset {offset}: a set has at most 512 modules and eight places")
             }
             Refusal::Repeated { offset } => {
                 write!(f, "the module at offset {offset} of the set has the name of an earlier one in its place, or ALL-UNNAMED")
             }
             Refusal::OutputTooShort { needed } => {
-                write!(f, "the output is too short: {needed} bytes, or words of a configuration, are needed")
+                write!(f, "the output is too short, or words of a configuration are too few: {needed} are needed")
             }
             Refusal::ModuleNotFound { input: Input::Request, .. } => write!(f, "a root of the request is not in the set"),
             Refusal::ModuleNotFound { .. } => write!(f, "a required module is not in the set"),

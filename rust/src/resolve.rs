@@ -23,13 +23,13 @@ pub fn check(set: &[u8], request: &[u8]) -> Result<usize, Refusal> {
 
 /// Resolves a set and a request (1 to 3, 5 to 7).
 pub fn resolve(set: &[u8], request: &[u8]) -> Result<Resolved, Refusal> {
-    let mut words = [0; WORDS];
-    let count = resolve_into(set, request, &mut words)?;
+    let mut words: Box<[u64; WORDS]> = vec![0; WORDS].try_into().expect("there are as many");
+    let count = resolve_into(set, request, &mut words[..])?;
     Ok(Resolved { configuration: Configuration::from_words(words), count })
 }
 
-/// Resolves into lent words (1 to 3, 5 to 7, 4): the first 1,032 are those of the configuration. The answer is the number of
-/// members.
+/// Resolves into lent words (1 to 3, 4, 5 to 7): the first 4,616 ([`WORDS`]) are then those of the configuration, and those
+/// beyond are left as they were. The answer is the number of members.
 pub fn resolve_into(set: &[u8], request: &[u8], words: &mut [u64]) -> Result<usize, Refusal> {
     // SAFETY: as above; the words are lent for writing and overlap nothing.
     let answer = told(|particulars| unsafe {

@@ -44,6 +44,16 @@ fn new_services_only() {
     assert_eq!(started(&set.concat(), &[]), 3);
 }
 
+/// Each module but java.base is bound in a round of its own.
+#[test]
+fn many_rounds() {
+    let bound = |i: usize| [module(&format!("m{i}")), provides(&short(i), &[]), uses(&short(i - 1))].concat();
+    let set = [(1..512).flat_map(bound).collect(), module("java.base"), uses(&short(511))].concat();
+    assert_eq!(started(&set, &[]), 512);
+    let without = |k: usize| (1..512).filter(|i| *i != k).flat_map(bound).collect::<Vec<_>>();
+    assert_eq!(started(&[without(200), module("java.base"), uses(&short(511))].concat(), &[]), 512 - 200);
+}
+
 #[test]
 fn packages_with_one_hash() {
     let packages = |from: usize, to: usize| (from..to).rev().flat_map(|i| package(&alike(i))).collect::<Vec<_>>();

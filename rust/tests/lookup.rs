@@ -6,7 +6,7 @@ use std::collections::BTreeSet;
 
 /// What a set may be long, and how many modules it may have.
 const LIMIT: usize = 65_535;
-const MODULES: usize = 256;
+const MODULES: usize = 512;
 
 /// Fifteen bytes of names in ascending order, the lowest and the highest among them.
 const LETTERS: &[u8; 15] = b"!-09AMZ_amnyz|~";
@@ -17,19 +17,19 @@ fn text(bytes: &[u8]) -> String {
 
 /// The `n`-th tail of two bytes.
 fn tail(n: usize) -> String {
-    format!("{}{}", (b'a' + (n / 16) as u8) as char, (b'B' + (n % 16) as u8) as char)
+    format!("{}{}", (b'A' + (n / 16) as u8) as char, (b'B' + (n % 16) as u8) as char)
 }
 
-/// Up to 256 names of one kind each, in ascending order: as many as a set has room for beside java.base and a requirement.
+/// Up to 512 names of one kind each, in ascending order: as many as a set has room for beside java.base and a requirement.
 fn families() -> Vec<(String, Vec<String>)> {
     let sharing = |n: usize| (format!("sharing {n} bytes"), (0..MODULES).map(|i| "s".repeat(n) + &tail(i)).collect());
-    let mut all: Vec<(String, Vec<String>)> = [6, 8, 14, 15, 16, 17, 240, 250].map(sharing).into();
-    all.push(("prefixes of each other".into(), (1..MODULES).map(|n| "a".repeat(n)).collect()));
+    let mut all: Vec<(String, Vec<String>)> = [6, 8, 14, 15, 16, 17, 100, 240, 250].map(sharing).into();
+    all.push(("prefixes of each other".into(), (1..256).flat_map(|n| ["a", "b"].map(|c| c.repeat(n))).collect()));
     let ending = |n: usize| LETTERS.map(|c| "m".repeat(n) + &text(&[c]));
-    all.push(("of 1 to 17 bytes".into(), (0..17).flat_map(ending).collect()));
+    all.push(("of 1 to 34 bytes".into(), (0..34).flat_map(ending).collect()));
     all.push(("of 241 to 255 bytes".into(), (240..255).flat_map(ending).collect()));
-    let changed = |at: usize| LETTERS.map(|c| text(&[&b"x".repeat(at)[..], &[c], &b"x".repeat(16 - at)].concat()));
-    all.push(("of 17 bytes, one of them different".into(), (0..17).flat_map(changed).collect()));
+    let changed = |at: usize| LETTERS.map(|c| text(&[&b"x".repeat(at)[..], &[c], &b"x".repeat(33 - at)].concat()));
+    all.push(("of 34 bytes, one of them different".into(), (0..34).flat_map(changed).collect()));
     for (kind, names) in &mut all {
         let mut room = LIMIT - module("java.base").len() - requires(&"n".repeat(255), 0).len();
         let fits = |n: &String| {
@@ -40,6 +40,7 @@ fn families() -> Vec<(String, Vec<String>)> {
         names.sort();
         assert!(names.len() > 200 && names.windows(2).all(|n| n[0] < n[1]), "{kind}: {}", names.len());
     }
+    assert!(all.iter().filter(|(_, names)| names.len() == MODULES).count() == 7);
     all
 }
 
@@ -54,11 +55,16 @@ fn orders(sorted: &[String]) -> Vec<Vec<String>> {
     vec![sorted.to_vec(), by(&|i| n - 1 - i), ends, outwards, shuffled]
 }
 
-/// Tests each kind of names in each order; the text says which.
-fn in_every_order(test: impl Fn(&str, &[String])) {
+/// Tests each kind of names in each order; the text and the number say which.
+fn in_every_order(test: impl Fn(&str, usize, &[String])) {
     for (kind, names) in families() {
-        orders(&names).iter().enumerate().for_each(|(i, names)| test(&format!("{kind}, order {i}"), names));
+        orders(&names).iter().enumerate().for_each(|(k, names)| test(&format!("{kind}, order {k}"), k, names));
     }
+}
+
+/// Every third of the names with their positions, from another on in each order: in three orders these are all positions.
+fn thirds(names: &[String], k: usize) -> impl Iterator<Item = (usize, &String)> {
+    names.iter().enumerate().skip(k % 3).step_by(3)
 }
 
 fn set_of(names: &[String]) -> Vec<u8> {
@@ -67,13 +73,13 @@ fn set_of(names: &[String]) -> Vec<u8> {
 
 /// All positions are members; each reads the one so many behind it, alone.
 fn reading(step: usize) -> Configuration {
-    let mut words = [0; WORDS];
-    words[..4].fill(u64::MAX);
+    let mut words = vec![0; WORDS];
+    words[..8].fill(u64::MAX);
     for i in 0..MODULES {
         let to = (i + step) % MODULES;
-        words[4 + 4 * i + to / 64] |= 1 << (to % 64);
+        words[8 + 9 * i + to / 64] |= 1 << (to % 64);
     }
-    Configuration::from_words(words)
+    Configuration::from_words(words.try_into().unwrap())
 }
 
 /// The position of the module that the library finds by this name.
@@ -114,9 +120,9 @@ fn odd() -> Vec<Vec<u8>> {
 #[test]
 fn by_questions() {
     let own = reading(0);
-    in_every_order(|of, names| {
+    in_every_order(|of, k, names| {
         let set = set_of(names);
-        for (i, name) in names.iter().enumerate() {
+        for (i, name) in thirds(names, k) {
             assert_eq!(found(&set, &own, name.as_bytes()), Some(i), "{of}, {name}");
             let other = &near(name)[i % 15];
             assert_eq!(found(&set, &own, other), walk(names, other), "{of}, {other:?}");
@@ -140,9 +146,9 @@ fn both_names() {
         assert_eq!((a, r), (Ok(expected.0), Ok(expected.1)));
         reads
     };
-    in_every_order(|of, names| {
+    in_every_order(|of, k, names| {
         let set = set_of(names);
-        for (i, asker) in names.iter().enumerate().step_by(5) {
+        for (i, asker) in names.iter().enumerate().rev().skip(k).step_by(10) {
             let target = |k: usize| names[(i + k) % names.len()].as_bytes();
             let is_last = i + 1 == names.len() && names.len() < MODULES;
             assert_eq!(verdict(&set, asker.as_bytes(), target(1)), !is_last, "{of}, {asker}");
@@ -166,19 +172,20 @@ fn ascending<const N: usize>(positions: [usize; N]) -> Vec<usize> {
 /// Roots, requirements and AR find every module; java.base stands among the others.
 #[test]
 fn by_resolution() {
-    in_every_order(|of, names| {
-        let (front, back) = names[..names.len().min(MODULES - 1)].split_at(100);
-        let names = [front, &["java.base".into()], back].concat();
+    in_every_order(|of, k, names| {
+        let names = &names[..names.len().min(MODULES - 1)];
+        let base = names.len() * 3 / 4;
+        let names = [&names[..base], &["java.base".into()], &names[base..]].concat();
         let set = set_of(&names);
         let last = names.len() - 1;
-        for (i, name) in names.iter().enumerate() {
+        for (i, name) in thirds(&names, k) {
             let j = (i + 7) % names.len();
             let request = [root(name), add_read(name, &names[j]), root(&names[j])].concat();
             let c = resolve(&set, &request).unwrap().configuration;
-            assert_eq!(c.members().collect::<Vec<_>>(), ascending([100, i, j]), "{of}, {name}");
+            assert_eq!(c.members().collect::<Vec<_>>(), ascending([base, i, j]), "{of}, {name}");
             assert!(c.reads(i, j), "{of}, {name}");
             let requiring = [&set[..], &requires(name, 0)].concat();
-            assert_eq!(members(&requiring, &root(&names[last])), ascending([100, i, last]), "{of}, {name}");
+            assert_eq!(members(&requiring, &root(&names[last])), ascending([base, i, last]), "{of}, {name}");
         }
     });
 }
@@ -186,11 +193,11 @@ fn by_resolution() {
 /// Names that come right behind one of the set are absent as roots, such that come before it as requirements.
 #[test]
 fn between_neighbours() {
-    in_every_order(|of, names| {
+    in_every_order(|of, k, names| {
         let names = &names[..names.len().min(MODULES - 1)];
         let set = [set_of(names), module("java.base")].concat();
         let mut asked = 0;
-        for name in names {
+        for (_, name) in thirds(names, k) {
             let (last, front) = name.as_bytes().split_last().unwrap();
             let absent = |n: &&String| {
                 let legal = (1..256).contains(&n.len()) && n.bytes().all(|b| b.is_ascii_graphic());
@@ -208,17 +215,18 @@ fn between_neighbours() {
                 asked += 1;
             }
         }
-        assert!(asked > 200, "{of}: {asked}");
+        assert!(asked > names.len() / 3, "{of}: {asked}");
     });
 }
 
 /// A name that the set has already is found in the check, whichever it is.
 #[test]
 fn repeated() {
-    in_every_order(|of, names| {
-        let set = set_of(&names[..names.len().min(MODULES - 1)]);
-        for name in module_names(&set) {
-            let again = [&set[..], &module(&text(name))].concat();
+    in_every_order(|of, k, names| {
+        let names = &names[..names.len().min(MODULES - 1)];
+        let set = set_of(names);
+        for (_, name) in thirds(names, k) {
+            let again = [&set[..], &module(name)].concat();
             assert_eq!(check(&again, &[]), Err(Refusal::Repeated { offset: set.len() }), "{of}, {name:?}");
         }
     });
@@ -242,7 +250,7 @@ fn hidden() {
     let own = reading(0);
     for (kind, mut names) in families() {
         names.insert(names.len() / 50, "java.base".into());
-        names.truncate(250);
+        names.truncate(MODULES);
         for count in [2, 3, 8] {
             for set in in_places(&names, count) {
                 let listed: Vec<_> = modules(&set).collect();
@@ -250,7 +258,7 @@ fn hidden() {
                 assert!(listed.iter().any(|m| m.hidden_by.is_some()), "{kind}, {count} places");
                 let names: Vec<&[u8]> = module_names(&set).collect();
                 let base = walk(&names, b"java.base").unwrap();
-                for m in listed.iter().step_by(2) {
+                for m in listed.iter().step_by(5) {
                     let first = walk(&names, m.name).unwrap();
                     assert_eq!(m.hidden_by.is_none(), first == m.position);
                     assert_eq!(found(&set, &own, m.name), Some(first), "{kind}, {count} places, {m}");
@@ -293,7 +301,7 @@ fn repeated_in_places() {
     }
     for (kind, names) in families() {
         for count in [2, 8] {
-            for set in in_places(&names[..names.len().min(255) / count * count], count) {
+            for set in in_places(&names[..names.len().min(MODULES - 1) / count * count], count) {
                 let listed: Vec<_> = modules(&set).collect();
                 let in_last: Vec<&[u8]> = listed.iter().filter(|m| m.place == count).map(|m| m.name).collect();
                 for m in &listed {

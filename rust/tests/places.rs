@@ -2,8 +2,6 @@
 use saqhovune::form::*;
 use saqhovune::*;
 
-const EVERY: [u64; WORDS] = [u64::MAX; WORDS];
-
 /// Positions: 0 java.base, 1 a; in the second place 2 a, hidden, and 3 b; in the third, 4 java.base, hidden, and 5 c.
 fn set() -> Vec<u8> {
     [
@@ -35,13 +33,16 @@ fn set() -> Vec<u8> {
     .concat()
 }
 
-/// The configuration of these members and edges; 256 is ALL-UNNAMED.
+/// ALL-UNNAMED as the target of an edge: the bit behind those of the positions.
+const UNNAMED: usize = 512;
+
+/// The configuration of these members and edges.
 fn configured(members: &[usize], edges: &[(usize, usize)]) -> Configuration {
-    let mut words = [0; WORDS];
+    let mut words = vec![0; WORDS];
     let mut add = |at: usize, i: usize| words[at + i / 64] |= 1 << (i % 64);
     members.iter().for_each(|&i| add(0, i));
-    edges.iter().for_each(|&(i, j)| if j == 256 { add(1028, i) } else { add(4 + 4 * i, j) });
-    Configuration::from_words(words)
+    edges.iter().for_each(|&(i, j)| add(8 + 9 * i, j));
+    Configuration::from_words(words.try_into().unwrap())
 }
 
 fn readers(c: &Configuration, name: &str) -> Vec<usize> {
@@ -101,9 +102,9 @@ fn resolved() {
     let r = resolve(&set(), &request).unwrap();
     let c = &r.configuration;
     assert_eq!((r.count, c.members().collect::<Vec<_>>()), (3, vec![0, 1, 3]));
-    let edges: Vec<_> = (0..256).flat_map(|i| (0..256).map(move |j| (i, j))).filter(|&(i, j)| c.reads(i, j)).collect();
+    let edges: Vec<_> = (0..512).flat_map(|i| (0..512).map(move |j| (i, j))).filter(|&(i, j)| c.reads(i, j)).collect();
     assert_eq!(edges, [(1, 0), (1, 3), (3, 0), (3, 1)]);
-    assert_eq!((0..256).filter(|&i| c.reads_unnamed(i)).collect::<Vec<_>>(), [1]);
+    assert_eq!((0..512).filter(|&i| c.reads_unnamed(i)).collect::<Vec<_>>(), [1]);
     assert_eq!(["java/lang", "a/p", "b/p", "old/p"].map(|p| owner(c, p)), [Some(0), Some(1), Some(3), None]);
 }
 
@@ -136,13 +137,13 @@ fn automatic() {
         [module("java.base"), module_with("a", 0, true, ""), place(), module("a"), module("java.base"), module("b")].concat();
     let c = resolve(&set, &[root("a"), root("b")].concat()).unwrap().configuration;
     assert_eq!(c.members().collect::<Vec<_>>(), [0, 1, 4]);
-    assert_eq!((0..256).filter(|&j| c.reads(1, j)).collect::<Vec<_>>(), [0, 4]);
+    assert_eq!((0..512).filter(|&j| c.reads(1, j)).collect::<Vec<_>>(), [0, 4]);
 }
 
 /// With every bit set the hidden positions 2 and 4 are as those past the last module.
 #[test]
 fn every_bit() {
-    let c = Configuration::from_words(EVERY);
+    let c = Configuration::from_words(vec![u64::MAX; WORDS].try_into().unwrap());
     let visible = [0, 1, 3, 5];
     for name in ["java.base", "a", "b", "c"] {
         assert_eq!(readers(&c, name), visible);
@@ -159,7 +160,7 @@ fn every_bit() {
 #[test]
 fn hidden_members_and_edges() {
     // a hidden member reads nothing and owns nothing
-    let c = configured(&[2, 3], &[(2, 3), (2, 256)]);
+    let c = configured(&[2, 3], &[(2, 3), (2, UNNAMED)]);
     assert_eq!(can_read(&set(), &c, b"a", b"b"), Ok(false));
     assert_eq!((readers(&c, "b"), readers(&c, "ALL-UNNAMED"), reached(&c, "a")), (vec![], vec![], vec![]));
     assert!(!transitive_reads(&set(), &c, b"a").unwrap().contains_unnamed());

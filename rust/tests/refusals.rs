@@ -2,31 +2,45 @@
 use saqhovune::form::*;
 use saqhovune::*;
 
-/// The refusal of a resolution; no lent word is written.
-fn refused(set: &[u8], request: &[u8]) -> Refusal {
-    let mut words = [7; WORDS];
+const TOO_FEW: Refusal = Refusal::OutputTooShort { needed: WORDS };
+
+/// The refusal of a resolution into so many words, none of which is written.
+fn refused(set: &[u8], request: &[u8], words: usize) -> Refusal {
+    let mut words = vec![7; words];
     let refusal = resolve_into(set, request, &mut words).unwrap_err();
-    assert_eq!(words, [7; WORDS]);
+    assert!(words.iter().all(|w| *w == 7));
     refusal
+}
+
+/// Too few words are told behind 1 to 3, and before all else.
+fn of_few_words(refusal: Refusal) -> Refusal {
+    if refusal.number() <= 3 {
+        refusal
+    } else {
+        TOO_FEW
+    }
 }
 
 #[track_caller]
 fn is(set: &[u8], request: &[u8], refusal: Refusal, number: u8, message: &str) {
-    assert_eq!(refused(set, request), refusal);
+    assert_eq!(refused(set, request, WORDS), refusal);
+    assert_eq!(refused(set, request, WORDS + 1), refusal);
+    assert_eq!(refused(set, request, WORDS - 1), of_few_words(refusal));
     assert_eq!(refusal.number(), number);
     assert_eq!(refusal.message(set, request), message);
     assert!(!refusal.to_string().is_empty());
     if number <= 3 {
-        let c = Configuration::from_words([0; WORDS]);
         assert_eq!(check(set, request), Err(refusal));
-        for kind in [AccessKind::Access, AccessKind::Reflection] {
-            assert_eq!(check_access(set, request, &c, kind, b"a", b"a", b"p"), Err(refusal));
-        }
-        if check(set, &[]) == Err(refusal) {
-            assert_eq!(can_read(set, &c, b"a", b"a"), Err(refusal));
-            assert_eq!(find_module_for_package(set, &c, b"p"), Err(refusal));
-            assert_eq!(readers_of(set, &c, b"a"), Err(refusal));
-            assert_eq!(transitive_reads(set, &c, b"a"), Err(refusal));
+        for words in [vec![0u64; WORDS], vec![0; WORDS - 1]] {
+            for kind in [AccessKind::Access, AccessKind::Reflection] {
+                assert_eq!(check_access(set, request, &words, kind, b"a", b"a", b"p"), Err(refusal));
+            }
+            if check(set, &[]) == Err(refusal) {
+                assert_eq!(can_read(set, &words, b"a", b"a"), Err(refusal));
+                assert_eq!(find_module_for_package(set, &words, b"p"), Err(refusal));
+                assert_eq!(readers_of(set, &words, b"a"), Err(refusal));
+                assert_eq!(transitive_reads(set, &words, b"a"), Err(refusal));
+            }
         }
     }
 }
@@ -40,7 +54,6 @@ fn malformed() {
     let set = [base(), b"XX\0\0".to_vec()].concat();
     let refusal = Refusal::Malformed { input: Input::Set, offset: 18 };
     is(&set, &[], refusal, 1, "the set's record at offset 18 is malformed");
-    assert_eq!(readers_of(&set, &Configuration::from_words([0; WORDS]), b"a"), Err(refusal));
 
     let request = [root("a"), limit(&[]), limit(&[])].concat();
     let refusal = Refusal::Malformed { input: Input::Request, offset: 12 };
@@ -67,10 +80,10 @@ fn too_large() {
     is(&long, &[], refusal, 2, "the set is longer than 65,535 bytes");
     is(b"?", &long, refusal, 2, "the request is longer than 65,535 bytes");
 
-    let many: Vec<u8> = (0..256).flat_map(|i| module(&format!("m{i}"))).collect();
-    assert_eq!(check(&many, &[]), Ok(256));
-    let set = [many.clone(), module("m256")].concat();
-    let message = format!("module 257 at offset {}: a set has at most 256 modules", many.len());
+    let many: Vec<u8> = (0..512).flat_map(|i| module(&format!("m{i}"))).collect();
+    assert_eq!(check(&many, &[]), Ok(512));
+    let set = [many.clone(), module("m512")].concat();
+    let message = format!("module 513 at offset {}: a set has at most 512 modules", many.len());
     is(&set, &[], Refusal::TooLarge { offset: many.len() }, 2, &message);
 }
 
@@ -78,11 +91,11 @@ fn too_large() {
 #[test]
 fn hidden_modules_count() {
     let numbered = |i: usize| module(&format!("m{i}"));
-    let good: Vec<u8> = [(0..200).flat_map(numbered).collect(), place(), (0..56).flat_map(numbered).collect()].concat();
-    assert_eq!(check(&good, &[]), Ok(256));
-    for last in [56, 300, 55] {
+    let good: Vec<u8> = [(0..400).flat_map(numbered).collect(), place(), (0..112).flat_map(numbered).collect()].concat();
+    assert_eq!(check(&good, &[]), Ok(512));
+    for last in [112, 600, 111] {
         let set = [good.clone(), numbered(last)].concat();
-        let message = format!("module 257 at offset {}: a set has at most 256 modules", good.len());
+        let message = format!("module 513 at offset {}: a set has at most 512 modules", good.len());
         is(&set, &[], Refusal::TooLarge { offset: good.len() }, 2, &message);
     }
 }

@@ -40,9 +40,9 @@ fn listing() {
     let c = &r.configuration;
     assert_eq!((r.count, c.len(), c.is_empty()), (4, 4, false));
     assert_eq!(c.members().collect::<Vec<_>>(), [0, 1, 2, 3]);
-    let edges: Vec<_> = (0..256).flat_map(|i| (0..256).map(move |j| (i, j))).filter(|&(i, j)| c.reads(i, j)).collect();
+    let edges: Vec<_> = (0..512).flat_map(|i| (0..512).map(move |j| (i, j))).filter(|&(i, j)| c.reads(i, j)).collect();
     assert_eq!(edges, [(1, 0), (1, 3), (2, 0), (2, 3), (3, 0)]);
-    assert!((0..256).all(|i| !c.reads_unnamed(i)));
+    assert!((0..512).all(|i| !c.reads_unnamed(i)));
     let owner = |p: &str| find_module_for_package(&set, c, p.as_bytes());
     assert_eq!(owner("java/lang"), Ok(Some(0)));
     assert_eq!(owner("page/foot"), Ok(Some(2)));
@@ -88,7 +88,7 @@ fn unnamed_and_cycles() {
 #[test]
 fn positions_past_the_last() {
     let c = resolved();
-    for i in [4, 255, 256, usize::MAX] {
+    for i in [4, 255, 256, 511, 512, usize::MAX] {
         assert!(!c.contains(i) && !c.reads(i, 0) && !c.reads(0, i) && !c.reads_unnamed(i));
     }
 }
@@ -132,18 +132,4 @@ fn graph() {
     assert!(readers_of(&set, &c, b"nobody").unwrap().is_empty());
     let row = transitive_reads(&set, &c, b"page.frames").unwrap();
     assert_eq!((row.len(), row.contains(0), row.contains_unnamed()), (1, true, false));
-}
-
-#[test]
-fn lent_words() {
-    let mut words = [7; WORDS + 2];
-    assert_eq!(resolve_into(&set(), &root("page.core"), &mut words), Ok(4));
-    assert_eq!(&words[..WORDS], resolved().words());
-    assert_eq!(words[WORDS..], [7, 7]);
-    for few in [0, 1, WORDS - 1] {
-        let mut words = vec![7; few];
-        let answer = resolve_into(&set(), &root("page.core"), &mut words);
-        assert_eq!(answer, Err(Refusal::OutputTooShort { needed: WORDS }));
-        assert!(words.iter().all(|&w| w == 7));
-    }
 }

@@ -145,6 +145,9 @@ static void class_file(struct bytes *b, const char *name) {
 enum { BASE, CORE, FOOT, FRAMES, SPARE, MODULES };
 #define BIT(position) (UINT64_C(1) << (position))
 
+/* Where the nine words of a position start. */
+#define OWN(position) (8 + 9 * (position))
+
 /* One place more than a configuration takes. */
 static uint64_t words[SAQHOVUNE_WORDS + 1];
 
@@ -157,6 +160,20 @@ static void words_are_marked(void) {
 }
 
 static struct bytes set, request, none;
+
+/* A row, and a word more that no call writes. */
+static uint64_t row[9];
+
+static void mark_row(void) {
+    for (size_t i = 0; i < 9; i++) row[i] = MARK;
+}
+
+static void row_is_at(int line, uint64_t expected) {
+    same_at(line, row[0], expected);
+    for (size_t i = 1; i < 8; i++) same_at(line, row[i], 0);
+    same_at(line, row[8], MARK);
+}
+#define row_is(expected) row_is_at(__LINE__, (expected))
 
 /* page.core starts page.frames, and page.foot by its service; nothing starts page.spare. */
 static void questions(void) {
@@ -179,9 +196,13 @@ static void questions(void) {
     mark_words();
     told(saqhovune_resolve(IN(set), IN(request), words, SAQHOVUNE_WORDS + 1, marked()), 0, 4, 0, 0, 0);
     same(words[0], BIT(BASE) | BIT(CORE) | BIT(FOOT) | BIT(FRAMES));
-    same(words[4 + 4 * CORE], BIT(BASE) | BIT(FRAMES));
-    same(words[4 + 4 * SPARE], 0);
-    same(words[SAQHOVUNE_WORDS - 4], BIT(FOOT));
+    same(words[OWN(CORE)], BIT(BASE) | BIT(FRAMES));
+    same(words[OWN(CORE) + 8], 0);
+    same(words[OWN(FOOT)], BIT(BASE) | BIT(FRAMES));
+    same(words[OWN(FOOT) + 8], 1);
+    same(words[OWN(FRAMES)], BIT(BASE));
+    for (size_t i = 1; i < 8; i++) same(words[i] | words[OWN(CORE) + i] | words[OWN(FOOT) + i] | words[OWN(FRAMES) + i], 0);
+    for (size_t i = OWN(SPARE); i < SAQHOVUNE_WORDS; i++) same(words[i], 0);
     same(words[SAQHOVUNE_WORDS], MARK);
 
 #define ASK(reflection, asker, target, package) \
@@ -199,25 +220,60 @@ static void questions(void) {
     told(OVER(saqhovune_find_module_for_package, NAME("page/frame")), 0, 1, FRAMES, 0, 0);
     told(OVER(saqhovune_find_module_for_package, NAME("page/spare")), 0, 0, 0, 0, 0);
 
-    uint64_t row[4] = {MARK, MARK, MARK, MARK};
-    told(OVER(saqhovune_readers_of, NAME("page.frames"), row), 0, 0, 0, 0, 0);
-    same(row[0], BIT(CORE) | BIT(FOOT));
-    same(row[1] | row[2] | row[3], 0);
-    told(OVER(saqhovune_transitive_reads, NAME("page.core"), row), 0, 0, 0, 0, 0);
-    same(row[0], BIT(BASE) | BIT(FRAMES));
-    told(OVER(saqhovune_transitive_reads, NAME("page.foot"), row), 0, 1, 0, 0, 0);
-    same(row[0], BIT(BASE) | BIT(FRAMES));
-
-    /* too few words to read: 4, and no row */
-    row[0] = MARK;
-    told(saqhovune_readers_of(IN(set), words, SAQHOVUNE_WORDS - 1, NAME("page.foot"), row, marked()), 4, SAQHOVUNE_WORDS, 0, 0, 0);
-    same(row[0], MARK);
+    /* twice, the second time with bits that are ignored */
+    for (int times = 0; times < 2; times++) {
+        mark_row();
+        told(OVER(saqhovune_readers_of, NAME("page.frames"), row), 0, 0, 0, 0, 0);
+        row_is(BIT(CORE) | BIT(FOOT));
+        mark_row();
+        told(OVER(saqhovune_readers_of, NAME("ALL-UNNAMED"), row), 0, 0, 0, 0, 0);
+        row_is(BIT(FOOT));
+        mark_row();
+        told(OVER(saqhovune_transitive_reads, NAME("page.core"), row), 0, 0, 0, 0, 0);
+        row_is(BIT(BASE) | BIT(FRAMES));
+        mark_row();
+        told(OVER(saqhovune_transitive_reads, NAME("page.foot"), row), 0, 1, 0, 0, 0);
+        row_is(BIT(BASE) | BIT(FRAMES));
+        words[7] = words[OWN(CORE) + 7] = MARK;
+        words[OWN(CORE) + 8] = ~UINT64_C(1);
+        for (size_t i = OWN(MODULES); i < SAQHOVUNE_WORDS; i++) words[i] = MARK;
+    }
 }
 
-/* Refusals 4, 5 and 7 of a resolution leave the words as they were. */
+/* Every call that is lent words, over so many of them: the same refusal, and nothing is written. */
+static void lent_at(int line, const struct bytes *s, size_t count, uint64_t number, uint64_t a, uint64_t b) {
+#define REFUSED(call) told_at(line, call, number, a, b, 0, 0)
+    mark_words();
+    mark_row();
+    REFUSED(saqhovune_resolve(IN(*s), IN(request), words, count, marked()));
+    REFUSED(saqhovune_check_access(IN(*s), IN(request), words, count, false, NAME("a"), NAME("a"), NAME("p"), marked()));
+    REFUSED(saqhovune_check_access(IN(*s), IN(request), words, count, true, NAME("a"), NAME("a"), NAME("p"), marked()));
+    REFUSED(saqhovune_can_read(IN(*s), words, count, NAME("a"), NAME("a"), marked()));
+    REFUSED(saqhovune_find_module_for_package(IN(*s), words, count, NAME("p"), marked()));
+    REFUSED(saqhovune_readers_of(IN(*s), words, count, NAME("a"), row, marked()));
+    REFUSED(saqhovune_transitive_reads(IN(*s), words, count, NAME("a"), row, marked()));
+    for (size_t i = 0; i < 9; i++) same_at(line, row[i], MARK);
+    words_are_marked();
+}
+#define lent(s, count, number, a, b) lent_at(__LINE__, (s), (count), (number), (a), (b))
+
+/* Too few words are told once the records are checked: before java.base is looked for, behind a malformed record. */
+static void few_words(void) {
+    static struct bytes broken;
+    put(&broken, set.at, set.len);
+    put(&broken, "XX", 2);
+    for (size_t count = 0; count < SAQHOVUNE_WORDS; count += SAQHOVUNE_WORDS - 1) {
+        lent(&set, count, 4, SAQHOVUNE_WORDS, 0);
+        lent(&none, count, 4, SAQHOVUNE_WORDS, 0);
+        lent(&broken, count, 1, 0, set.len);
+    }
+    lent(&broken, SAQHOVUNE_WORDS, 1, 0, set.len);
+}
+
+/* Refusals 5 to 7 of a resolution leave the words as they were. */
 static void refusals(void) {
     mark_words();
-    told(saqhovune_resolve(IN(set), IN(request), words, SAQHOVUNE_WORDS - 1, marked()), 4, SAQHOVUNE_WORDS, 0, 0, 0);
+    told(saqhovune_resolve(IN(none), IN(request), words, SAQHOVUNE_WORDS, marked()), 6, 0, 0, 0, 0);
     words_are_marked();
 
     size_t name = required(&set, "page.absent", 0);
@@ -268,6 +324,7 @@ static void readers(void) {
 
 int main(void) {
     questions();
+    few_words();
     refusals();
     readers();
     return faults != 0;

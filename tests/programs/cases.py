@@ -36,6 +36,12 @@ bound = (
 hiding = base + foot + place + core + foot + place + place + foot
 shared = base + core + package(b"page/foot") + foot + package(b"page/foot")
 long = bytes(65536)
+# 512 modules; the last requires the one before it
+numbered = [module(b"m%d" % i) for i in range(511)]
+full = base + b"".join(numbered) + requires(b"m509")
+of_last = root(b"m510")
+# 512 modules, of which the second half is hidden
+twice = (base + b"".join(numbered[:255]) + place) * 2
 
 LISTING = open("crates/resolve/stdout").read()
 BASE = "module java.base\nmodule {}\nreads java.base\n"
@@ -43,6 +49,8 @@ PROOF = (
     "resolved 3\n" + BASE.format("page.core") + "reads page.proof\nmodule page.proof\nreads java.base\n"
     "owner page/proof page.proof\n"
 )
+FULL = "resolved 3\n" + BASE.format("m509") + "module m510\nreads java.base\nreads m509\n"
+TWICE = "".join("{} of place 2 is hidden by place 1\n".format(n) for n in ["java.base"] + ["m%d" % i for i in range(255)])
 ABSENT = "{} is not in the set\n"
 HIDDEN = "page.foot of place 2 is hidden by place 1\npage.foot of place 4 is hidden by place 1\n"
 MISSING = "{}: cannot read the file {}: No such file or directory\n"
@@ -65,6 +73,9 @@ RESOLVE = {
     "a second ST": (proof, with_static + of_core + with_static, "refused 1\n", ""),
     "hidden modules": (hiding, of_foot, "resolved 2\n" + BASE.format("page.foot"), HIDDEN),
     "hidden modules and an absent root": (hiding, of_frames, "refused 5\n", ABSENT.format("page.frames") + HIDDEN),
+    "512 modules": (full, of_last, FULL, ""),
+    "513 modules": (full + module(b"m511"), of_last, "refused 2\n", ""),
+    "512 modules, half of them hidden": (twice, root(b"m254"), "resolved 2\n" + BASE.format("m254"), TWICE),
     "no java.base": (core, of_core, "refused 6\n", ""),
     "a package of two modules": (shared, of_core + of_foot, "refused 7\n", ""),
     "a malformed set": (b"MO", of_core, "refused 1\n", ""),
@@ -82,6 +93,9 @@ ASK = {
     "a second ST": (proof, with_static * 2, "a b p", "refused 1\n", ""),
     "an absent root": (base, of_core, "a b p", "refused 5\n", ABSENT.format("page.core")),
     "an absent requirement": (without, of_core, "a b p", "refused 5\n", ABSENT.format("page.frames")),
+    "the last of 512 modules asks": (full, of_last, "m510 m509 p", "access NotExported\nreflection NotOpened\n", ""),
+    "the last of 512 modules is asked": (full, of_last, "m509 m510 p", "access NotReadable\nreflection NotReadable\n", ""),
+    "513 modules": (full + module(b"m511"), of_last, "m510 m509 p", "refused 2\n", ""),
     "no java.base": (core, of_core, "a b p", "refused 6\n", ""),
     "a package of two modules": (shared, of_core + of_foot, "a b p", "refused 7\n", ""),
     "a set of 65,536 bytes": (long, of_core, "a b p", "refused 2\n", ""),

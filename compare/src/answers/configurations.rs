@@ -1,10 +1,9 @@
 //! Entries over configurations that were not resolved. Positions: 0 java.base, 1 a, 2 b, 3 t (open p by entry), 4 auto, 5 open.
 use super::{System, system};
+use crate::second::UNNAMED as UN;
 use saqhovune::form::*;
 
 const UNNAMED: &str = "ALL-UNNAMED";
-/// The target of an edge that means ALL-UNNAMED.
-const UN: usize = 256;
 
 fn set() -> Vec<u8> {
     [
@@ -34,7 +33,7 @@ fn over(name: &str, request: &[Vec<u8>], members: &[usize], edges: &[(usize, usi
 }
 
 pub fn systems() -> Vec<System> {
-    let high: Vec<usize> = (6..256).collect();
+    let high: Vec<usize> = (6..512).collect();
     vec![
         over("configuration: nothing at all", &[], &[], &[])
             .ask("a", "t", "p")
@@ -200,7 +199,7 @@ pub fn systems() -> Vec<System> {
             .graph(UNNAMED)
             .graph("a"),
         system("configuration: an asker with every edge", &[set()], &[])
-            .over(&[0, 1, 2, 3, 4, 5], &(0..=256).map(|j| (1, j)).collect::<Vec<_>>())
+            .over(&[0, 1, 2, 3, 4, 5], &(0..512).chain([UN]).map(|j| (1, j)).collect::<Vec<_>>())
             .ask("a", "t", "p")
             .ask("a", "open", "open/p")
             .ask("a", UNNAMED, "p")

@@ -197,10 +197,10 @@ fn order() -> Vec<System> {
             REQUEST,
             root("x").len(),
         ),
-        set("the 257th module is refused with 2", 2, &many(256), &module("m256")),
-        set("at the 257th MO 1 comes before 2", 1, &many(256), &longer(module("m256"))),
-        set("at the 257th MO 2 comes before 3", 2, &many(256), &module("m0")),
-        set("a record of the 256th module is looked at before the 257th", 1, &many(256), &malformed),
+        set("the 513th module is refused with 2", 2, &many(512), &module("m512")),
+        set("at the 513th MO 1 comes before 2", 1, &many(512), &longer(module("m512"))),
+        set("at the 513th MO 2 comes before 3", 2, &many(512), &module("m0")),
+        set("a record of the 512th module is looked at before the 513th", 1, &many(512), &malformed),
         system("a request of 65,536 bytes comes before a malformed set", &[b"M".to_vec()], &[too_long]).refused(2, 0, 0),
     ]
 }

@@ -52,7 +52,7 @@ enum What {
     Resolved { requirement: Option<usize> },
     /// A set and a request that are refused before.
     Refused(ByHand),
-    /// Entries over a configuration of these members and edges; 256 is ALL-UNNAMED.
+    /// Entries over a configuration of these members and edges; `second::UNNAMED` is ALL-UNNAMED.
     Configured { members: Vec<usize>, edges: Vec<(usize, usize)> },
 }
 
@@ -133,7 +133,7 @@ fn put(out: &mut Vec<u8>, text: &[u8]) {
 }
 
 fn put_row(out: &mut Vec<u8>, positions: impl Iterator<Item = usize>) {
-    let mut words = [0u64; 4];
+    let mut words = [0u64; 8];
     positions.for_each(|i| words[i / 64] |= 1 << (i % 64));
     words.iter().for_each(|w| out.extend(w.to_be_bytes()));
 }
@@ -254,8 +254,8 @@ fn given(members: &[usize], edges: &[(usize, usize)]) -> (Configuration, Vec<u8>
     let mut out = Vec::new();
     put_row(&mut out, members.iter().copied());
     for i in 0..edges.iter().map(|e| e.0 + 1).max().unwrap_or(0) {
-        put_row(&mut out, edges.iter().filter(|e| e.0 == i && e.1 < 256).map(|e| e.1));
-        out.push(u8::from(edges.contains(&(i, 256))));
+        put_row(&mut out, edges.iter().filter(|e| e.0 == i && e.1 != second::UNNAMED).map(|e| e.1));
+        out.push(u8::from(edges.contains(&(i, second::UNNAMED))));
     }
     (second::configuration(members, edges), out)
 }
@@ -402,22 +402,29 @@ impl Out {
     }
 }
 
-/// Writes data/cases and stdout into the folder of the test program.
+/// Writes data/cases, data/more and stdout into the folder of the test program. Places, static requirements and jars are in
+/// the second.
 pub fn write(folder: &Path) -> std::io::Result<()> {
     let mut out = Out::default();
     let systems = [malformed::systems(), queue::systems(), rounds::systems(), reads::systems(), access::systems()];
-    let systems = systems.into_iter().flatten().chain(configurations::systems()).chain(places::systems());
-    let systems: Vec<System> = systems.chain(statics::systems()).collect();
+    let systems: Vec<System> = systems.into_iter().flatten().chain(configurations::systems()).collect();
+    let more: Vec<System> = places::systems().into_iter().chain(statics::systems()).collect();
     let jars = jars::jars();
-    let mut names: Vec<&str> = systems.iter().map(|s| s.name.as_str()).chain(jars.iter().map(|j| j.name.as_str())).collect();
+    let names = systems.iter().chain(&more).map(|s| s.name.as_str());
+    let mut names: Vec<&str> = names.chain(jars.iter().map(|j| j.name.as_str())).collect();
     names.sort();
     names.windows(2).for_each(|w| assert_ne!(w[0], w[1], "a name of two cases"));
     systems.iter().for_each(|s| out.system(s));
+    let cases = std::mem::take(&mut out.cases);
+    more.iter().for_each(|s| out.system(s));
     jars.iter().for_each(|j| out.jar(j));
-    assert!(out.cases.len() <= 524_288, "the list is too long: {} bytes", out.cases.len());
+    for list in [&cases, &out.cases] {
+        assert!(list.len() <= 524_288, "a list is too long: {} bytes", list.len());
+    }
     for (what, n) in out.counts {
         println!("{what}: {n}");
     }
-    fs::write(folder.join("data/cases"), out.cases)?;
+    fs::write(folder.join("data/cases"), cases)?;
+    fs::write(folder.join("data/more"), out.cases)?;
     fs::write(folder.join("stdout"), out.lines)
 }

@@ -2,11 +2,10 @@
 //! position and are nothing else.
 use super::malformed::{cut, longer, mark, of_module, request, set};
 use super::{System, system};
+use crate::second::UNNAMED as UN;
 use saqhovune::form::*;
 
 const UNNAMED: &str = "ALL-UNNAMED";
-/// The target of an edge that means ALL-UNNAMED.
-const UN: usize = 256;
 
 fn base() -> Vec<u8> {
     module("java.base")
@@ -40,9 +39,9 @@ fn good() -> Vec<System> {
         system("places: a name in eight places", &[base(), [place(), base()].concat().repeat(7)], &[]).graph("java.base"),
         system("places: a main class in each place", &[base(), main_class("M"), place(), base(), main_class("N")], &[]),
         system(
-            "places: 256 modules with hidden ones",
-            &[base(), numbered(0, 127), place(), base(), numbered(0, 127)],
-            &[root("m126")],
+            "places: 512 modules with hidden ones",
+            &[base(), numbered(0, 255), place(), base(), numbered(0, 255)],
+            &[root("m254")],
         ),
         system(
             "places: a module requires one in front",
@@ -105,8 +104,8 @@ fn malformed() -> Vec<System> {
 }
 
 fn too_many() -> Vec<System> {
-    // 256 modules; of the 257th in this place, m129 is hidden and m0 is there already
-    let hidden = || [numbered(0, 130), place(), numbered(0, 126)].concat();
+    // 512 modules; of the 513th in this place, m257 is hidden and m0 is there already
+    let hidden = || [numbered(0, 258), place(), numbered(0, 254)].concat();
     vec![
         set("places: a ninth PL is refused with 2", 2, &[place().repeat(8)], &place()),
         set("places: a module and eight PL are refused with 2", 2, &[base(), place().repeat(7)], &place()),
@@ -117,11 +116,11 @@ fn too_many() -> Vec<System> {
         set("places: a ninth PL comes before what is behind it", 2, &[place().repeat(8)], &[place(), package("p")].concat()),
         set("places: a fault before the ninth PL comes first", 3, &[place(), base()], &[base(), place().repeat(8)].concat()),
         system("places: a ninth PL comes before a malformed request", &[place().repeat(9)], &[b"R".to_vec()]).refused(2, 0, 32),
-        set("places: a hidden module is the 257th", 2, &[hidden()], &module("m129")),
-        set("places: the 257th in a place of its own", 2, &[hidden(), place()], &module("m0")),
-        set("places: at the 257th MO 1 comes before 2 where it is hidden", 1, &[hidden()], &longer(module("m129"))),
-        set("places: at the 257th MO 2 comes before 3 in a second place", 2, &[hidden()], &module("m0")),
-        set("places: a ninth PL behind 256 modules", 2, &[hidden(), place().repeat(6)], &place()),
+        set("places: a hidden module is the 513th", 2, &[hidden()], &module("m257")),
+        set("places: the 513th in a place of its own", 2, &[hidden(), place()], &module("m0")),
+        set("places: at the 513th MO 1 comes before 2 where it is hidden", 1, &[hidden()], &longer(module("m257"))),
+        set("places: at the 513th MO 2 comes before 3 in a second place", 2, &[hidden()], &module("m0")),
+        set("places: a ninth PL behind 512 modules", 2, &[hidden(), place().repeat(6)], &place()),
     ]
 }
 
@@ -403,8 +402,8 @@ fn configurations() -> Vec<System> {
             .graph("b")
             .graph(UNNAMED)
     };
-    let every: Vec<usize> = (0..256).collect();
-    let edges: Vec<(usize, usize)> = (0..8).flat_map(|i| (0..=256).map(move |j| (i, j))).collect();
+    let every: Vec<usize> = (0..512).collect();
+    let edges: Vec<(usize, usize)> = (0..8).flat_map(|i| (0..512).chain([UN]).map(move |j| (i, j))).collect();
     vec![
         all(over("places: every member and every edge", &[], &every, &edges)),
         all(over("places: only hidden members, and every edge", &[], &[2, 4, 6], &edges)),

@@ -161,8 +161,8 @@ fn roots() -> Vec<System> {
         system("a root ALL-UNNAMED is absent", &[two()], &[root(UNNAMED)]),
         system("a root ALL-UNNAMED is skipped where not permitted", &[two()], &[root(UNNAMED), limit(&["a"])]),
         system("a root ALL-UNNAMED is absent where permitted", &[two()], &[root(UNNAMED), limit(&[UNNAMED])]),
-        system("roots of 256 modules", &[many(255)], &[(0..255).map(|i| root(&format!("m{i}"))).collect::<Vec<_>>().concat()])
-            .ask("m254", "m0", "p")
+        system("roots of 512 modules", &[many(511)], &[(0..511).map(|i| root(&format!("m{i}"))).collect::<Vec<_>>().concat()])
+            .ask("m510", "m0", "p")
             .graph("java.base"),
     ]
 }

@@ -11,31 +11,31 @@ use Rattle.records.specs.Finder.{findModule}
 use Rattle.records.specs.Name.{javaBase, allUnnamed, memName}
 use Rattle.records.specs.Request.{Request, requestOf, checkInputs}
 use Rattle.records.specs.Set.{modules, checkSet}
+use Rattle.records.specs.declared.error.ModuleError.the-variants.{OutputTooShort}
 use Rattle.records.specs.declared.finder.Found.{Found}
 use Rattle.records.specs.declared.finder.Found.the-variants.{At, Nothing}
 use Rattle.records.specs.declared.set.SetAnswer.{SetAnswer}
 use Rattle.records.specs.declared.set.SetAnswer.the-variants as Set
-use Rattle.resolution.specs.Graph.{edge}
+use Rattle.resolution.specs.Configuration.{wordCount, pickAnswer, withWords, memberBit, edgeBit, unnamedBit}
 use Rattle.resolution.specs.Lists.{Name}
 use Rattle.resolution.specs.Observed.{hasMember, hasEdge, hasUnnamedEdge}
 use Rattle.resolution.specs.PackageOwner.{ownsAt, ownerIn, findModuleForPackage}
 use Rattle.resolution.specs.Positions.{moduleAt, isVisible}
 use Rattle.resolution.specs.Resolution.{find}
-use Rattle.resolution.specs.Row.{holds}
-use Rattle.resolution.specs.declared.configuration.Configuration.{Configuration}
 use Rattle.resolution.proofs.Words.{words-over}
 use Rattle.resolution.proofs.owner.Laws.{lowest-over}
 use Rattle.access.specs.Access.{passes, isMember, edgeTo, isReader, readsName, resolvedModule, isReflection, verdict, answered, checkAccess}
 use Rattle.access.specs.Agree.{Agree, SameVisibleBits, SameAnswers}
 use Rattle.access.specs.CanRead.{readAnswered, canRead}
 use Rattle.access.specs.Members.{verdictBy}
-use Rattle.access.specs.ReadGraph.{readsAt, readsUnnamedAt, Leads, readersAnswered, readersOf, LeadsToUnnamed, LedFrom, TransitiveReads}
+use Rattle.access.specs.ReadGraph.{rowLength, readsAt, readsUnnamedAt, Leads, readersAnswered, readersOf, transitiveReads, LeadsToUnnamed, LedFrom}
 use Rattle.access.specs.declared.access.AccessAnswer.the-variants.{Verdict}
 use Rattle.access.specs.declared.access.ReadAnswer.the-variants.{Reads}
 use Rattle.access.specs.declared.graph.GraphAnswer.{GraphAnswer}
 use Rattle.access.specs.declared.graph.GraphOutcome.the-variants.{Answered}
 use Rattle.access.proofs.Visible.{verdict-is}
 use Rattle.access.proofs.graph.Answers.{leads-over, one-over}
+use Rattle.access.proofs.graph.Led.{transitive-led, transitive-only}
 
 -- what is found passes both of two tests that are the same, or neither
 passes-over : (p q : ℕ → Bool) → ((i : ℕ) → p i ≡ q i) → (f : Found) → passes p f ≡ passes q f
@@ -43,9 +43,15 @@ unfolding passes
 passes-over p q h (At i) = h i
 passes-over p q h Nothing = refl
 
-module _ (s : List ℕ) (c₁ c₂ : Configuration) (h : Agree s c₁ c₂) where
+module _ (s : List ℕ) (c₁ c₂ : List ℕ) (h : Agree s c₁ c₂) where
   agree-back : Agree s c₂ c₁
-  agree-back = record { members = λ i. sym (h .members i); edges = λ i j. sym (h .edges i j); unnamed = λ i. sym (h .unnamed i) }
+  agree-back = record { enough = sym (h .enough); members = λ i. sym (h .members i); edges = λ i j. sym (h .edges i j); unnamed = λ i. sym (h .unnamed i) }
+
+  -- the words are enough for both, or for neither
+  same-taken : (a : SetAnswer) → withWords c₁ a ≡ withWords c₂ a
+  unfolding withWords
+  same-taken (Set.Refused e) = refl
+  same-taken (Set.Modules n) = ap (λ (b : Bool). pickAnswer b (Set.Refused (OutputTooShort wordCount)) (Set.Modules n)) (h .enough)
 
   -- ---- what is said of names
 
@@ -88,7 +94,9 @@ module _ (s : List ℕ) (c₁ c₂ : Configuration) (h : Agree s c₁ c₂) wher
   same-access : (reflection : Bool) (q : List ℕ) (asker target p : Name)
       → checkAccess reflection s q c₁ asker target p ≡ checkAccess reflection s q c₂ asker target p
   unfolding checkAccess
-  same-access reflection q asker target p = same-answered reflection q asker target p (checkInputs s q .answer)
+  same-access reflection q asker target p =
+      same-answered reflection q asker target p (withWords c₁ (checkInputs s q .answer))
+      ∙ ap (answered reflection s q c₂ asker target p) (same-taken (checkInputs s q .answer))
 
   -- ---- whether a module can read another
 
@@ -99,7 +107,7 @@ module _ (s : List ℕ) (c₁ c₂ : Configuration) (h : Agree s c₁ c₂) wher
 
   same-can-read : (x y : Name) → canRead s c₁ x y ≡ canRead s c₂ x y
   unfolding canRead
-  same-can-read x y = same-read-answered x y (checkSet s .answer)
+  same-can-read x y = same-read-answered x y (withWords c₁ (checkSet s .answer)) ∙ ap (readAnswered s c₂ x y) (same-taken (checkSet s .answer))
 
   -- ---- the members that read a name
 
@@ -107,11 +115,11 @@ module _ (s : List ℕ) (c₁ c₂ : Configuration) (h : Agree s c₁ c₂) wher
   unfolding readersAnswered
   same-readers-answered y (Set.Refused e) = refl
   same-readers-answered y (Set.Modules n) =
-      ap (λ (l : List ℕ). record { outcome = Answered; row = l; unnamed = false }) (words-over (isReader s c₁ y) (isReader s c₂ y) (same-reader y) 4)
+      ap (λ (l : List ℕ). record { outcome = Answered; row = l; unnamed = false }) (words-over (isReader s c₁ y) (isReader s c₂ y) (same-reader y) rowLength)
 
   same-readers : (y : Name) → readersOf s c₁ y ≡ readersOf s c₂ y
   unfolding readersOf
-  same-readers y = same-readers-answered y (checkSet s .answer)
+  same-readers y = same-readers-answered y (withWords c₁ (checkSet s .answer)) ∙ ap (readersAnswered s c₂ y) (same-taken (checkSet s .answer))
 
   -- ---- the owner of a package
 
@@ -126,7 +134,7 @@ module _ (s : List ℕ) (c₁ c₂ : Configuration) (h : Agree s c₁ c₂) wher
 
   same-owner : (p : Name) → findModuleForPackage s c₁ p ≡ findModuleForPackage s c₂ p
   unfolding findModuleForPackage
-  same-owner p = same-owner-in p (checkSet s .answer)
+  same-owner p = same-owner-in p (withWords c₁ (checkSet s .answer)) ∙ ap (ownerIn s c₂ p) (same-taken (checkSet s .answer))
 
   -- ---- what read edges lead to
 
@@ -144,7 +152,7 @@ module _ (s : List ℕ) (c₁ c₂ : Configuration) (h : Agree s c₁ c₂) wher
   leads-unnamed : (i : ℕ) → LeadsToUnnamed s c₁ i → LeadsToUnnamed s c₂ i
   leads-unnamed i x = one-over (readsAt s c₁) (readsAt s c₂) (readsUnnamedAt s c₁) (readsUnnamedAt s c₂) same-at same-unnamed i x
 
-module _ (s : List ℕ) (c₁ c₂ : Configuration) (h : Agree s c₁ c₂) where
+module _ (s : List ℕ) (c₁ c₂ : List ℕ) (h : Agree s c₁ c₂) where
   back : Agree s c₂ c₁
   back = agree-back s c₁ c₂ h
 
@@ -158,12 +166,17 @@ module _ (s : List ℕ) (c₁ c₂ : Configuration) (h : Agree s c₁ c₂) wher
     unnamed-complete = λ i e f. l .unnamed-complete i e (leads-unnamed s c₂ c₁ back i f);
   }
 
-  same-transitive : (x : Name) (r : GraphAnswer) → TransitiveReads s c₁ x r → TransitiveReads s c₂ x r
-  same-transitive x r t = record { refused = t .refused; answered = λ n e. same-led x r (t .answered n e) }
+  same-transitive : (x : Name) → transitiveReads s c₁ x ≡ transitiveReads s c₂ x
+  same-transitive x =
+      let t = transitive-led s c₁ x in
+      transitive-only s c₂ x (transitiveReads s c₁ x) (record {
+        refused = λ e k. t .refused e (same-taken s c₁ c₂ h (checkSet s .answer) ∙ k);
+        answered = λ n k. same-led x (transitiveReads s c₁ x) (t .answered n (same-taken s c₁ c₂ h (checkSet s .answer) ∙ k));
+      })
 
 -- ---- the three tests decide every answer
 
-pub tests-decide : (s : List ℕ) (c₁ c₂ : Configuration) → Agree s c₁ c₂ → SameAnswers s c₁ c₂
+pub tests-decide : (s : List ℕ) (c₁ c₂ : List ℕ) → Agree s c₁ c₂ → SameAnswers s c₁ c₂
 tests-decide s c₁ c₂ h = record {
   verdicts = λ kind. same-access s c₁ c₂ h (isReflection kind);
   can-read = same-can-read s c₁ c₂ h;
@@ -179,13 +192,14 @@ where-seen : (v a b : Bool) → (v ≡ true → a ≡ b) → v && a ≡ v && b
 where-seen true a b f = f refl
 where-seen false a b f = refl
 
-pub hidden-ignored : (s : List ℕ) (c₁ c₂ : Configuration) → SameVisibleBits s c₁ c₂ → Agree s c₁ c₂
+pub hidden-ignored : (s : List ℕ) (c₁ c₂ : List ℕ) → SameVisibleBits s c₁ c₂ → Agree s c₁ c₂
 unfolding hasMember hasEdge hasUnnamedEdge
 hidden-ignored s c₁ c₂ b = record {
-  members = λ i. where-seen (seen i) (holds (c₁ .members) i) (holds (c₂ .members) i) (b .members i);
-  edges = λ i j. where-seen (seen i) (seen j && edge (c₁ .reads) i j) (seen j && edge (c₂ .reads) i j)
-      (λ v. where-seen (seen j) (edge (c₁ .reads) i j) (edge (c₂ .reads) i j) (b .edges i j v));
-  unnamed = λ i. where-seen (seen i) (holds (c₁ .unnamed) i) (holds (c₂ .unnamed) i) (b .unnamed i);
+  enough = b .enough;
+  members = λ i. where-seen (seen i) (memberBit c₁ i) (memberBit c₂ i) (b .members i);
+  edges = λ i j. where-seen (seen i) (seen j && edgeBit c₁ i j) (seen j && edgeBit c₂ i j)
+      (λ v. where-seen (seen j) (edgeBit c₁ i j) (edgeBit c₂ i j) (b .edges i j v));
+  unnamed = λ i. where-seen (seen i) (unnamedBit c₁ i) (unnamedBit c₂ i) (b .unnamed i);
 }
   where
     seen : ℕ → Bool

@@ -13,18 +13,18 @@ use Rattle.records.specs.Finder.{findName, findModule, isAt, isFirst}
 use Rattle.records.specs.declared.set.SetAnswer.{SetAnswer}
 use Rattle.records.proofs.automatic.Cases.{case-6, case-6-name, case-7, case-8}
 use Rattle.resolution.specs.Lists.{Name}
-use Rattle.resolution.specs.Resolve.{bitsFrom, wordsFrom, words, memberAt, edgeAt, unnamedAt, configurationOf, told, answered, resolve}
+use Rattle.resolution.specs.Configuration.{withWords, memberWords, rowWords, memberBit, edgeBit, unnamedBit, rowsFrom, wordsOf}
+use Rattle.resolution.specs.Resolve.{memberAt, edgeAt, unnamedAt, configurationOf, refused, told, answered, resolve}
 use Rattle.resolution.specs.Resolution as Resolution
 use Rattle.resolution.specs.Positions.{isVisible}
 use Rattle.resolution.specs.Observed.{hasMember, hasEdge, hasUnnamedEdge}
-use Rattle.resolution.specs.Row.{bit, holds, one}
-use Rattle.resolution.specs.Graph.{edge}
+use Rattle.resolution.specs.Row.{bit, holds, one, bitsFrom, wordsFrom, words}
+use Rattle.resolution.specs.Graph.{edge, ninth, unnamedEdge}
 use Rattle.resolution.specs.Reads.{reads}
 use Rattle.resolution.specs.Cases.{a, b, c}
 use Rattle.resolution.proofs.ByteCases.{byte-case1, byte-case2, byte-case3, byte-case4, byte-case5, byte-case10}
 use Rattle.access.specs.Access.{passes, isMember, edgeTo, isReader, readsName, resolvedModule, isReflection, entriesOf, grantsOf, denied, grants, granted, namedVerdict, unnamedGranted, unnamedVerdict, verdict, answered as answeredAccess, checkAccess}
-use Rattle.access.specs.Demand3.{configuration}
-use Rattle.access.specs.Cases.{exportsSet, rootC, p, TenCases}
+use Rattle.access.specs.Cases.{exportsSet, rootC, p, lent, resolvedTo, TenCases}
 use Rattle.access.specs.declared.access.AccessKind.{AccessKind}
 use Rattle.access.specs.declared.access.AccessKind.the-variants.{Access}
 use Rattle.access.specs.declared.access.AccessAnswer.{AccessAnswer}
@@ -38,14 +38,14 @@ compute s q = checkInputs s q .answer
 
 -- and one all that resolution and a question do
 unfoldable pub ask : AccessKind → List ℕ → List ℕ → Name → Name → Name → AccessAnswer
-unfolding compute bitsFrom wordsFrom words memberAt edgeAt unnamedAt configurationOf told answered resolve Resolution.resolve bit holds one edge reads hasMember hasEdge hasUnnamedEdge isVisible passes isMember edgeTo isReader readsName resolvedModule entriesOf grantsOf denied grants granted namedVerdict unnamedGranted unnamedVerdict verdict answeredAccess checkAccess
-ask kind s q asker target pkg = checkAccess (isReflection kind) s q (configuration s q) asker target pkg
+unfolding compute lent withWords memberWords rowWords memberBit edgeBit unnamedBit rowsFrom wordsOf bitsFrom wordsFrom words memberAt edgeAt unnamedAt configurationOf refused told answered resolve Resolution.resolve bit holds one edge ninth unnamedEdge reads hasMember hasEdge hasUnnamedEdge isVisible passes isMember edgeTo isReader readsName resolvedModule entriesOf grantsOf denied grants granted namedVerdict unnamedGranted unnamedVerdict verdict answeredAccess checkAccess
+ask kind s q asker target pkg = checkAccess (isReflection kind) s q (resolvedTo s q) asker target pkg
 
-case9-reads : readsName exportsSet (configuration exportsSet rootC) c a ≡ true
+case9-reads : readsName exportsSet (resolvedTo exportsSet rootC) c a ≡ true
 unfolding ask exportsSet rootC
 case9-reads = refl
 
-case9 : checkAccess (isReflection Access) exportsSet rootC (configuration exportsSet rootC) c a p ≡ Verdict NotExported
+case9 : checkAccess (isReflection Access) exportsSet rootC (resolvedTo exportsSet rootC) c a p ≡ Verdict NotExported
 unfolding ask exportsSet rootC
 case9 = refl
 

@@ -4,8 +4,8 @@ use Prim.Native.Nat.{ℕ, _≤_}
 use native.Mathlib.Omega.{arith}
 use mathlib.Core.Bool.{Bool, true, false, _&&_, _||_, or-false}
 use mathlib.Core.Option.{Option, none, some}
-use mathlib.Core.List.{List}
-use lib.ListN.{length}
+use mathlib.Core.List.{List, _++_}
+use lib.ListN.{length, drop}
 use Rattle.records.specs.Bytes.{sameBytes}
 use Rattle.records.specs.Descriptor.{Descriptor}
 use Rattle.records.specs.Finder.{findModule}
@@ -27,10 +27,12 @@ use Rattle.resolution.specs.Positions.{moduleAt}
 use Rattle.resolution.specs.Reads.{reads, readsFrom}
 use Rattle.resolution.specs.Resolution.{find, hasModule, Refusal, State}
 use Rattle.resolution.specs.Resolution as Resolution
-use Rattle.resolution.specs.Resolve.{memberAt, edgeAt, unnamedAt, configurationOf, refused, told, answered, resolve}
-use Rattle.resolution.specs.declared.configuration.Configuration.{Configuration}
+use Rattle.resolution.specs.Resolve.{memberAt, edgeAt, unnamedAt, configurationOf, ResolveResult, refused, told, answered, resolve}
+use Rattle.resolution.specs.Configuration.{wordCount, withWords}
 use Rattle.resolution.specs.declared.resolve.Outcome.the-variants as Outcome
 use Rattle.resolution.proofs.Find.{find-mem, has-find, has-names, has-some}
+use Rattle.resolution.proofs.ConfigurationWords.{with-taken}
+use Rattle.resolution.proofs.PackageOwner.{words-are-told, long-enough}
 use Rattle.resolution.proofs.Observed.{member-is, edge-is, unnamed-is}
 use Rattle.resolution.proofs.Positions.{Located, find-none, located-visible}
 use Rattle.resolution.proofs.Sets.{set-length, set-accepted, set-located, set-not-located}
@@ -40,33 +42,44 @@ use Rattle.access.specs.Demand3.{IsAccepted, configuration}
 
 -- ---- an accepted pair
 
--- the inputs are taken, and resolution is done
-pub record Done (s q : List ℕ) : Type 0 where
+-- the inputs are taken, the words are enough, and resolution is done
+pub record Done (s q ws : List ℕ) : Type 0 where
   pub count : ℕ
   pub state : State
   pub taken : checkInputs s q .answer ≡ Set.Modules count
+  pub enough : wordCount ≤ length ws
   pub finished : Resolution.resolve (modules s) (requestOf q) ≡ done state
 
-told-out : (s q : List ℕ) (n : ℕ) (r : Result State Refusal) → checkInputs s q .answer ≡ Set.Modules n → Resolution.resolve (modules s) (requestOf q) ≡ r
-    → told s q r .outcome ≡ Outcome.Accepted → Done s q
-unfolding told refused
-told-out s q n (failed x) c e h = clash (cc)
-told-out s q n (done st) c e h = record { count = n; state = st; taken = c; finished = e }
+module _ (s q ws : List ℕ) where
+  told-out : (n : ℕ) (r : Result State Refusal) → withWords ws (checkInputs s q .answer) ≡ Set.Modules n → Resolution.resolve (modules s) (requestOf q) ≡ r
+      → told s q ws r .outcome ≡ Outcome.Accepted → Done s q ws
+  unfolding told refused
+  told-out n (failed x) c e h = clash (cc)
+  told-out n (done st) c e h = let t = with-taken ws (checkInputs s q .answer) n c in record { count = n; state = st; taken = t .0; enough = t .1; finished = e }
 
-answered-out : (s q : List ℕ) (a : SetAnswer) → checkInputs s q .answer ≡ a → answered s q a .outcome ≡ Outcome.Accepted → Done s q
-unfolding answered refused
-answered-out s q (Set.Refused x) c h = clash (cc)
-answered-out s q (Set.Modules n) c h = told-out s q n (Resolution.resolve (modules s) (requestOf q)) c refl h
+  answered-out : (a : SetAnswer) → withWords ws (checkInputs s q .answer) ≡ a → answered s q ws a .outcome ≡ Outcome.Accepted → Done s q ws
+  unfolding answered refused
+  answered-out (Set.Refused x) c h = clash (cc)
+  answered-out (Set.Modules n) c h = told-out n (Resolution.resolve (modules s) (requestOf q)) c refl h
 
-pub accepted-out : (s q : List ℕ) → IsAccepted s q → Done s q
-unfolding resolve
-accepted-out s q h = answered-out s q (checkInputs s q .answer) refl h
+  pub accepted-out : IsAccepted s q ws → Done s q ws
+  unfolding resolve
+  accepted-out h = answered-out (withWords ws (checkInputs s q .answer)) refl h
 
--- its configuration is that of the modules resolved
-pub configuration-is : (s q : List ℕ) (d : Done s q) → configuration s q ≡ configurationOf (modules s) (requestOf q) (d .state .resolved)
-unfolding resolve answered told
-configuration-is s q d =
-    ap (λ (a : SetAnswer). answered s q a .configuration) (d .taken) ∙ ap (λ (r : Result State Refusal). told s q r .configuration) (d .finished)
+  module _ (d : Done s q ws) where
+    done-told : resolve s q ws ≡ record { outcome = Outcome.Accepted; words = configurationOf (modules s) (requestOf q) (d .state .resolved) ++ drop wordCount ws }
+    done-told = words-are-told s q ws (d .count) (d .state) (d .taken) (d .enough) (d .finished)
+
+    pub accepted-in : IsAccepted s q ws
+    accepted-in = ap (λ (r : ResolveResult). r .outcome) done-told
+
+    -- its configuration is that of the modules resolved, and the words beyond
+    pub configuration-is : configuration s q ws ≡ configurationOf (modules s) (requestOf q) (d .state .resolved) ++ drop wordCount ws
+    configuration-is = ap (λ (r : ResolveResult). r .words) done-told
+
+    -- which are enough for every question
+    pub configuration-enough : wordCount ≤ length (configuration s q ws)
+    configuration-enough = subst (λ (c : List ℕ). wordCount ≤ length c) (sym configuration-is) (long-enough (modules s) (requestOf q) (d .state .resolved) (drop wordCount ws))
 
 -- ---- reads of the modules resolved
 
@@ -87,19 +100,19 @@ reads-target R rq x y h k = turned (find x R)
 -- ---- the words, by names
 
 -- what the configuration of the modules resolved says
-pub record ByNames (s : List ℕ) (rq : Request) (c : Configuration) (R : List Descriptor) : Type 0 where
+pub record ByNames (s : List ℕ) (rq : Request) (c : List ℕ) (R : List Descriptor) : Type 0 where
   pub member : (n : Name) → isMember s c n ≡ hasModule R n
   pub read : (x y : Name) → readsName s c x y ≡ reads R rq x y
   pub module-of : (n : Name) → resolvedModule s c n ≡ find n R
 
-module _ (s : List ℕ) (n : ℕ) (t : List ℕ) (g : GoodSet s n t) (rq : Request) (R : List Descriptor) (a : Accepted (modules s) rq R) where
+module _ (s : List ℕ) (n : ℕ) (t : List ℕ) (g : GoodSet s n t) (rq : Request) (R : List Descriptor) (a : Accepted (modules s) rq R) (rest : List ℕ) where
   abbrev S : List Descriptor
   S = modules s
 
-  abbrev c : Configuration
-  c = configurationOf (modules s) rq R
+  abbrev c : List ℕ
+  c = configurationOf (modules s) rq R ++ rest
 
-  long : length S ≤ 256
+  long : length S ≤ 512
   long = omega (arith, set-length s n t g, g .few)
 
   name-at : (x : Name) (i : ℕ) → Located x S i → moduleAt S i .name ≡ x
@@ -125,7 +138,7 @@ module _ (s : List ℕ) (n : ℕ) (t : List ℕ) (g : GoodSet s n t) (rq : Reque
       turned : (f : Found) → findModule s x ≡ f → passes (hasMember S c) f ≡ hasModule R x
       turned (At i) e =
           let o = set-located s x i e in
-          member-is S long rq R i ∙ rw (located-visible x S i o) (ap (hasModule R) (name-at x i o))
+          member-is S long rq R rest i ∙ rw (located-visible x S i o) (ap (hasModule R) (name-at x i o))
       turned Nothing e = sym (not-in x (set-not-located s x e .0))
 
   -- an edge, where the source is a module of the set
@@ -135,12 +148,12 @@ module _ (s : List ℕ) (n : ℕ) (t : List ℕ) (g : GoodSet s n t) (rq : Reque
   edges-named x y i o (At j) e =
       let k = set-located s y j e in
       let u : hasEdge S c i j ≡ reads R rq x y
-      = edge-is S long rq R i j ∙ rw (located-visible x S i o, located-visible y S j k, name-at x i o, name-at y j k) in
+      = edge-is S long rq R rest i j ∙ rw (located-visible x S i o, located-visible y S j k, name-at x i o, name-at y j k) in
       rw (named y (k .observable), u) (or-false (reads R rq x y))
   edges-named x y i o Nothing e = by (sameBytes y allUnnamed)
       (λ k.
       let u : hasUnnamedEdge S c i ≡ reads R rq x y
-      = unnamed-is S long rq R i ∙ rw (located-visible x S i o, name-at x i o, same-eq y allUnnamed k) in
+      = unnamed-is S long rq R rest i ∙ rw (located-visible x S i o, name-at x i o, same-eq y allUnnamed k) in
       rw (k, u))
       (λ k. rw (k, reads-target R rq x y (not-in y (set-not-located s y e .0)) k))
 
@@ -156,7 +169,7 @@ module _ (s : List ℕ) (n : ℕ) (t : List ℕ) (g : GoodSet s n t) (rq : Reque
       turned : (f : Found) → findModule s x ≡ f → passes (isReader s c y) f ≡ reads R rq x y
       turned (At i) e =
           let o = set-located s x i e in
-          let m : hasMember S c i ≡ hasModule R x = member-is S long rq R i ∙ rw (located-visible x S i o) (ap (hasModule R) (name-at x i o)) in
+          let m : hasMember S c i ≡ hasModule R x = member-is S long rq R rest i ∙ rw (located-visible x S i o) (ap (hasModule R) (name-at x i o)) in
           rw m (ap (λ (b : Bool). hasModule R x && b) (edges-named x y i o (findModule s y) refl) ∙ source-counts x y (hasModule R x) refl)
       turned Nothing e = sym (reads-source R rq x y (not-in x (set-not-located s x e .0)))
 
@@ -171,13 +184,13 @@ module _ (s : List ℕ) (n : ℕ) (t : List ℕ) (g : GoodSet s n t) (rq : Reque
 
 -- ---- over bytes
 
-module _ (s q : List ℕ) (d : Done s q) where
+module _ (s q ws : List ℕ) (d : Done s q ws) where
   pub done-good : GoodSet s (d .count) (checkInputs s q .starts)
   done-good = good-set s (d .count) (checkInputs s q .starts) (resolve-set s q (checkInputs s q) refl (d .count) (d .taken))
 
   pub done-accepted : Accepted (modules s) (requestOf q) (d .state .resolved)
   done-accepted = set-accepted s (d .count) (checkInputs s q .starts) done-good (requestOf q) (d .state) (d .finished)
 
-  pub done-named : ByNames s (requestOf q) (configuration s q) (d .state .resolved)
-  done-named = subst (λ (c : Configuration). ByNames s (requestOf q) c (d .state .resolved)) (sym (configuration-is s q d))
-      (by-names s (d .count) (checkInputs s q .starts) done-good (requestOf q) (d .state .resolved) done-accepted)
+  pub done-named : ByNames s (requestOf q) (configuration s q ws) (d .state .resolved)
+  done-named = subst (λ (c : List ℕ). ByNames s (requestOf q) c (d .state .resolved)) (sym (configuration-is s q ws d))
+      (by-names s (d .count) (checkInputs s q .starts) done-good (requestOf q) (d .state .resolved) done-accepted (drop wordCount ws))

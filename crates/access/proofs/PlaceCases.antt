@@ -6,14 +6,13 @@ use Rattle.records.specs.Set.{enterAt, placesAt, blocks}
 use Rattle.resolution.specs.Cases.{rootA}
 use Rattle.resolution.specs.Lists.{Name, Mem}
 use Rattle.resolution.specs.PackageOwner.{ownsAt, lowest, ownerIn, findModuleForPackage}
-use Rattle.resolution.specs.declared.configuration.Configuration.{Configuration}
 use Rattle.resolution.specs.declared.owner.Owner.{Owner}
 use Rattle.access.specs.ReadGraph.{readersAnswered, readersOf}
 use Rattle.access.specs.PlaceCases.{q, hiddenSet, hiddenRequest, serviceSet, boundSet, sharedSet, ownSet, frontSet, hiddenAlone, PlaceCases}
 use Rattle.access.proofs.Cases.{ask}
 
 -- one line opens all: resolution and questions, and what a set with PL, its owners and its graph need beside
-own : List ℕ → Configuration → Name → Owner
+own : List ℕ → List ℕ → Name → Owner
 unfolding ask enterAt placesAt ownsAt lowest ownerIn findModuleForPackage readersAnswered readersOf q hiddenSet hiddenRequest serviceSet boundSet sharedSet ownSet frontSet hiddenAlone rootA
 own s c p = findModuleForPackage s c p
 
@@ -38,7 +37,6 @@ place-cases = record {
   between = refl;
   between-members = refl;
   between-rows = refl;
-  between-unnamed = refl;
   seen-owner = refl;
   hidden-owner = refl;
   hidden-export = refl;

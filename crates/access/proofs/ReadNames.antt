@@ -19,7 +19,6 @@ use Rattle.records.proofs.Logic.{by, true≠false, or-left, or-right}
 use Rattle.resolution.specs.Lists.{Name}
 use Rattle.resolution.specs.Positions.{moduleAt, isVisible}
 use Rattle.resolution.specs.Observed.{hasMember, hasEdge}
-use Rattle.resolution.specs.declared.configuration.Configuration.{Configuration}
 use Rattle.resolution.proofs.Positions.{getD-any, visible-in}
 use Rattle.resolution.proofs.Sets.{set-length}
 use Rattle.access.specs.Access.{passes, edgeTo, isReader, readsName}
@@ -32,7 +31,7 @@ own-name [] j h = absurd (omega arith)
 own-name (x ∷ l) zero h = or-left (sameBytes x x) (memName x l) (same-refl x)
 own-name (x ∷ l) (suc j) h = or-right (sameBytes x (getD l j [])) (memName (getD l j []) l) (own-name l j (omega arith))
 
-module _ (s : List ℕ) (n : ℕ) (t : List ℕ) (g : GoodSet s n t) (c : Configuration) where
+module _ (s : List ℕ) (n : ℕ) (t : List ℕ) (g : GoodSet s n t) (c : List ℕ) where
   -- the name of the module at i
   abbrev nameOf : ℕ → Name
   nameOf i = getD (map (λ (m : Descriptor). m .name) (modules s)) i []

@@ -15,10 +15,11 @@ use Rattle.records.specs.Jar.{nameFor, namedFor, recordsFor, fitted, thenName, 
 use Rattle.resolution.specs.Lists.{Name}
 use Rattle.resolution.specs.Resolve.{bodyStart, startIn, recordsAt, absentOf, splitOf, errorOf}
 use Rattle.resolution.specs.Absent.{absentName}
+use Rattle.resolution.specs.PackageOwner.{ownerIn, findModuleForPackage}
 use Rattle.access.specs.CanRead.{canRead}
 use Rattle.access.specs.Form.{MO, MO-open, MO-automatic, RQ, RQ-transitive, RQ-static, EX, OP, US, PV, PK, MC, PL, RT, LM, ST, AR, AE, AO}
 use Rattle.access.specs.PlaceCases.{q}
-use Rattle.access.specs.ReadGraph.{readsAt, step, then, readersOf}
+use Rattle.access.specs.ReadGraph.{readsAt, step, then, readersOf, transitiveReads}
 use Rattle.access.specs.RuleCases.{s, t, base, beside, requiring, chain, chainBroken, services, sharing, PL7, jarName, jarModule, jarRecords, access, RuleCases}
 use Rattle.access.specs.declared.access.AccessAnswer.{AccessAnswer}
 use Rattle.access.proofs.Cases.{ask}
@@ -26,12 +27,35 @@ use Rattle.access.proofs.PlaceCases.{place-cases}
 
 -- one line opens all: resolution and questions, the forms, the sets, the particulars of refusals, places, and the jar reader
 unfoldable pub compute : List ℕ → List ℕ → Name → Name → Name → AccessAnswer
-unfolding ask MO MO-open MO-automatic RQ RQ-transitive RQ-static EX OP US PV PK MC PL RT LM ST AR AE AO q s t base beside requiring chain chainBroken services sharing PL7 jarName jarModule jarRecords canRead readsAt readersOf absentName bodyStart startIn recordsAt absentOf splitOf errorOf nthIn begins firstIn blockAt enterAt placesAt upToPlace behindPlaces placesOf places foundFrom visibleBlocks inputNumber numberOf particularsOf packageKind beforeBytes isDigit isLetter isAlphanumeric isStart hasByte afterLast fileName withoutJar startsVersion hasVersion withoutVersion dottedFrom dotted trimFront trimEnd trimmed derivedName isRest isPart inFront partsOf allParts isModuleName validated derived insertName orderedFrom ordered packagesOf written twoBytes recordBytes nameBytes moduleRecord baseRecord group automaticRecords nameFor namedFor recordsFor fitted thenName thenPackages jarAnswer outputAfter
+unfolding ask MO MO-open MO-automatic RQ RQ-transitive RQ-static EX OP US PV PK MC PL RT LM ST AR AE AO q s t base beside requiring chain chainBroken services sharing PL7 jarName jarModule jarRecords canRead readsAt readersOf findModuleForPackage ownerIn transitiveReads absentName bodyStart startIn recordsAt absentOf splitOf errorOf nthIn begins firstIn blockAt enterAt placesAt upToPlace behindPlaces placesOf places foundFrom visibleBlocks inputNumber numberOf particularsOf packageKind beforeBytes isDigit isLetter isAlphanumeric isStart hasByte afterLast fileName withoutJar startsVersion hasVersion withoutVersion dottedFrom dotted trimFront trimEnd trimmed derivedName isRest isPart inFront partsOf allParts isModuleName validated derived insertName orderedFrom ordered packagesOf written twoBytes recordBytes nameBytes moduleRecord baseRecord group automaticRecords nameFor namedFor recordsFor fitted thenName thenPackages jarAnswer outputAfter
 compute set rq asker target pkg = access set rq asker target pkg
 
 pub rule-cases : RuleCases
 unfolding compute
 rule-cases = record {
+  words-short = refl;
+  words-enough = refl;
+  words-before-resolution = refl;
+  words-after-set = refl;
+  words-after-request = refl;
+  words-beyond = refl;
+  words-kept = refl;
+  words-short-kept = refl;
+  words-asked = refl;
+  words-asked-after = refl;
+  words-read = refl;
+  words-read-after = refl;
+  words-readers = refl;
+  words-transitive = refl;
+  words-owner = refl;
+  words-laid = refl;
+  words-rest = refl;
+  words-of-others = refl;
+  words-second = refl;
+  words-last-edge = refl;
+  words-last = refl;
+  words-ninth = refl;
+  words-ninth-odd = refl;
   add-read = refl;
   add-read-back = refl;
   add-read-none = refl;
@@ -60,6 +84,9 @@ rule-cases = record {
   edge-to-non-member = refl;
   one-edge = step refl;
   two-edges = then {j = 2} (step refl) refl;
+  transitive = refl;
+  transitive-unnamed = refl;
+  transitive-none = refl;
   readers = refl;
   can-read = refl;
   can-read-back = refl;
@@ -88,7 +115,7 @@ rule-cases = record {
   queue-root-first = refl;
   queue-first-record = refl;
   split = refl;
-  split-zeros = refl;
+  split-words = refl;
   split-back = refl;
   split-first = refl;
   split-before-absent = refl;

@@ -1,18 +1,20 @@
 -- A verdict that allows still allows where there is more to read, to grant and to find; and for each kind the verdicts are those of
 -- the former pair.
 use mathlib.Core.Path.{_≡_, refl, ap}
-use Prim.Native.Nat.{ℕ}
+use Prim.Native.Nat.{ℕ, _≤_}
 use mathlib.Core.Bool.{Bool, true, false, _||_, cond}
 use mathlib.Core.Option.{Option, none, some}
 use mathlib.Core.List.{List}
+use lib.ListN.{length}
 use Rattle.records.specs.Bytes.{sameBytes}
 use Rattle.records.specs.Descriptor.{Descriptor}
 use Rattle.records.specs.Name.{javaBase, allUnnamed, memName}
 use Rattle.records.specs.Request.{Request, hasGrant, requestOf, checkInputs}
 use Rattle.records.specs.declared.set.SetAnswer.the-variants as Set
 use Rattle.records.proofs.Logic.{clash, true≠false}
+use Rattle.resolution.specs.Configuration.{wordCount}
 use Rattle.resolution.specs.Lists.{Name}
-use Rattle.resolution.specs.declared.configuration.Configuration.{Configuration}
+use Rattle.resolution.proofs.ConfigurationWords.{with-enough}
 use Rattle.resolution.proofs.Lists.{imp, or-imp, same-imp, use-imp}
 use Rattle.access.specs.Access.{readsName, resolvedModule, grantsOf, denied, pickResult, grants, granted, namedVerdict, unnamedGranted, unnamedVerdict, verdict, answered, checkAccess}
 use Rattle.access.specs.FormerPair.{FormerPair}
@@ -37,7 +39,7 @@ readable-out false r e = clash (cc)
 
 -- ---- the verdict
 
-module _ (reflection : Bool) (s₁ : List ℕ) (rq₁ : Request) (c₁ : Configuration) (s₂ : List ℕ) (rq₂ : Request) (c₂ : Configuration)
+module _ (reflection : Bool) (s₁ : List ℕ) (rq₁ : Request) (c₁ : List ℕ) (s₂ : List ℕ) (rq₂ : Request) (c₂ : List ℕ)
     (reads : (x y : Name) → readsName s₁ c₁ x y ≡ true → readsName s₂ c₂ x y ≡ true)
     (found : (n : Name) (m : Descriptor) → resolvedModule s₁ c₁ n ≡ some m → resolvedModule s₂ c₂ n ≡ some m)
     (more : (x p y : Name) → hasGrant (grantsOf reflection rq₁) x p y ≡ true → hasGrant (grantsOf reflection rq₂) x p y ≡ true) where
@@ -97,15 +99,15 @@ module _ (reflection : Bool) (s₁ : List ℕ) (rq₁ : Request) (c₁ : Configu
 -- ---- over bytes
 
 -- where the inputs are taken, the answer is the verdict
-pub answer-is : (reflection : Bool) (s q : List ℕ) (n : ℕ) → checkInputs s q .answer ≡ Set.Modules n → (c : Configuration) (asker target p : Name)
+pub answer-is : (reflection : Bool) (s q : List ℕ) (n : ℕ) → checkInputs s q .answer ≡ Set.Modules n → (c : List ℕ) → wordCount ≤ length c → (asker target p : Name)
     → checkAccess reflection s q c asker target p ≡ Verdict (verdict reflection s (requestOf q) c asker target p)
 unfolding checkAccess answered
-answer-is reflection s q n h c asker target p = ap (answered reflection s q c asker target p) h
+answer-is reflection s q n h c l asker target p = ap (answered reflection s q c asker target p) (with-enough c (checkInputs s q .answer) n h l)
 
 pub verdict-out : (r : AccessCheckResult) → Verdict r ≡ Verdict Allowed → r ≡ Allowed
 verdict-out r e = cc
 
 -- ---- the kinds
 
-pub former-pair : (s q : List ℕ) (c : Configuration) (asker target p : Name) → FormerPair s q c asker target p
+pub former-pair : (s q : List ℕ) (c : List ℕ) (asker target p : Name) → FormerPair s q c asker target p
 former-pair s q c asker target p = record { access = refl; reflection = refl }

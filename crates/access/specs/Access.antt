@@ -1,5 +1,5 @@
--- Verdicts (document 01, "Access"), over any configuration value and any three byte strings. Everywhere below `reflection` says
--- which of the two questions is asked; `isReflection` says it of a kind (U8).
+-- Verdicts (document 01, "Access"), over any words c of a configuration and any three byte strings. Everywhere below `reflection`
+-- says which of the two questions is asked; `isReflection` says it of a kind (U8).
 use Prim.Native.Nat.{ℕ}
 use mathlib.Core.Bool.{Bool, true, false, _&&_, _||_, cond}
 use mathlib.Core.Option.{Option, none, some}
@@ -16,8 +16,8 @@ use Rattle.records.specs.declared.set.SetAnswer.{SetAnswer}
 use Rattle.records.specs.declared.set.SetAnswer.the-variants as Set
 use Rattle.resolution.specs.Lists.{Name}
 use Rattle.resolution.specs.Observed.{hasMember, hasEdge, hasUnnamedEdge}
+use Rattle.resolution.specs.Configuration.{withWords}
 use Rattle.resolution.specs.Resolution.{find}
-use Rattle.resolution.specs.declared.configuration.Configuration.{Configuration}
 use Rattle.access.specs.declared.access.AccessKind.{AccessKind}
 use Rattle.access.specs.declared.access.AccessKind.the-variants.{Access, Reflection}
 use Rattle.access.specs.declared.access.AccessCheckResult.{AccessCheckResult}
@@ -33,27 +33,27 @@ passes p (At i) = p i
 passes p Nothing = false
 
 -- the module of this name is a member
-unfoldable pub isMember : List ℕ → Configuration → Name → Bool
+unfoldable pub isMember : List ℕ → List ℕ → Name → Bool
 unfolding passes hasMember
 isMember s c n = passes (hasMember (modules s) c) (findModule s n)
 
 -- an edge leads from the module at i to y, which may be ALL-UNNAMED
-unfoldable pub edgeTo : List ℕ → Configuration → Name → ℕ → Bool
+unfoldable pub edgeTo : List ℕ → List ℕ → Name → ℕ → Bool
 unfolding passes hasEdge hasUnnamedEdge
 edgeTo s c y i = passes (hasEdge (modules s) c i) (findModule s y) || (sameBytes y allUnnamed && hasUnnamedEdge (modules s) c i)
 
 -- the module at i reads y: "an edge counts if its source is a member"
-unfoldable pub isReader : List ℕ → Configuration → Name → ℕ → Bool
+unfoldable pub isReader : List ℕ → List ℕ → Name → ℕ → Bool
 unfolding hasMember edgeTo
 isReader s c y i = hasMember (modules s) c i && edgeTo s c y i
 
 -- x reads y
-unfoldable pub readsName : List ℕ → Configuration → Name → Name → Bool
+unfoldable pub readsName : List ℕ → List ℕ → Name → Name → Bool
 unfolding passes isReader
 readsName s c x y = passes (isReader s c y) (findModule s x)
 
 -- the module of this name, where it is resolved
-unfoldable pub resolvedModule : List ℕ → Configuration → Name → Option Descriptor
+unfoldable pub resolvedModule : List ℕ → List ℕ → Name → Option Descriptor
 unfolding isMember find
 resolvedModule s c n = cond (isMember s c n) (find n (modules s)) none
 
@@ -97,7 +97,7 @@ granted reflection (some m) p asker = grants reflection m p asker
 
 -- "needs a read edge or target java.base, else NotReadable; then an AE (AO) of that package with the target as source and the
 -- asker as target allows; then a resolved target"
-unfoldable pub namedVerdict : Bool → List ℕ → Request → Configuration → Name → Name → Name → AccessCheckResult
+unfoldable pub namedVerdict : Bool → List ℕ → Request → List ℕ → Name → Name → Name → AccessCheckResult
 unfolding readsName grantsOf granted resolvedModule denied
 namedVerdict reflection s rq c asker target p =
     pickResult (readsName s c asker target || sameBytes target javaBase)
@@ -115,25 +115,26 @@ unnamedGranted reflection rq target p (some m) =
     cond (m .isAutomatic) (memName p (m .packages)) (hasGrant (grantsOf reflection rq) target p allUnnamed || grants reflection m p allUnnamed)
 
 -- "Asker ALL-UNNAMED reads all; an unresolved target is denied"
-unfoldable pub unnamedVerdict : Bool → List ℕ → Request → Configuration → Name → Name → AccessCheckResult
+unfoldable pub unnamedVerdict : Bool → List ℕ → Request → List ℕ → Name → Name → AccessCheckResult
 unfolding unnamedGranted resolvedModule denied
 unnamedVerdict reflection s rq c target p = pickResult (unnamedGranted reflection rq target p (resolvedModule s c target)) Allowed (denied reflection)
 
 -- ---- the verdict
 
 -- "Asker equal to target: Allowed, known or not."
-unfoldable pub verdict : Bool → List ℕ → Request → Configuration → Name → Name → Name → AccessCheckResult
+unfoldable pub verdict : Bool → List ℕ → Request → List ℕ → Name → Name → Name → AccessCheckResult
 unfolding namedVerdict unnamedVerdict
 verdict reflection s rq c asker target p =
     pickResult (sameBytes asker target) Allowed
     (pickResult (sameBytes asker allUnnamed) (unnamedVerdict reflection s rq c target p) (namedVerdict reflection s rq c asker target p))
 
-unfoldable pub answered : Bool → List ℕ → List ℕ → Configuration → Name → Name → Name → SetAnswer → AccessAnswer
+unfoldable pub answered : Bool → List ℕ → List ℕ → List ℕ → Name → Name → Name → SetAnswer → AccessAnswer
 unfolding verdict
 answered reflection s q c asker target p (Set.Refused e) = Refused e
 answered reflection s q c asker target p (Set.Modules n) = Verdict (verdict reflection s (requestOf q) c asker target p)
 
--- "Questions take the set and request too and end only with 1 to 3"
-unfoldable pub checkAccess : Bool → List ℕ → List ℕ → Configuration → Name → Name → Name → AccessAnswer
-unfolding answered
-checkAccess reflection s q c asker target p = answered reflection s q c asker target p (checkInputs s q .answer)
+-- "Questions take the set and request too and end only with 1 to 3"; "a shorter slice is an output too short, number 4 with 4,616,
+-- tested after the records .. in questions too" (U12)
+unfoldable pub checkAccess : Bool → List ℕ → List ℕ → List ℕ → Name → Name → Name → AccessAnswer
+unfolding answered withWords
+checkAccess reflection s q c asker target p = answered reflection s q c asker target p (withWords c (checkInputs s q .answer))

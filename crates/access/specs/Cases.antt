@@ -1,9 +1,10 @@
 -- Document 01's ten cases ("Cases to prove"), of the definitions over bytes.
-use Prim.Native.Nat.{ℕ}
+use Prim.Native.Nat.{ℕ, _≤_}
 use mathlib.Core.Path.{_≡_}
 use mathlib.Core.Bool.{true}
 use mathlib.Core.Option.{some}
 use mathlib.Core.List.{List, [], _∷_}
+use lib.ListN.{length, replicate}
 use Rattle.records.specs.Name.{javaBase}
 use Rattle.records.specs.Request.{requestOf}
 use Rattle.records.specs.Set.{modules}
@@ -13,6 +14,7 @@ use Rattle.records.specs.declared.automatic.Named.the-variants.{Valid}
 use Rattle.records.specs.declared.automatic.Named.the-variants as Named
 use Rattle.records.specs.declared.error.Input.the-variants as Input
 use Rattle.records.specs.declared.error.ModuleError.the-variants.{ModuleNotFound, JavaBaseNotFound, InvalidAutomaticModuleName, InvalidModuleName}
+use Rattle.resolution.specs.Configuration.{wordCount}
 use Rattle.resolution.specs.Lists.{Name}
 use Rattle.resolution.specs.Loop.{Result}
 use Rattle.resolution.specs.Resolution.{State, Refusal}
@@ -38,26 +40,34 @@ rootC = 82 ∷ 84 ∷ 0 ∷ 2 ∷ 1 ∷ 99 ∷ []
 unfoldable pub p : Name
 p = 112 ∷ []
 
+-- 4,616 lent words, and what `resolve` makes of them
+unfoldable pub lent : List ℕ
+lent = replicate wordCount 0
+
+abbrev pub resolvedTo : List ℕ → List ℕ → List ℕ
+resolvedTo s q = configuration s q lent
+
 -- what the modules of a set resolve to with a request
 abbrev pub resolved : List ℕ → List ℕ → Result State Refusal
 resolved s q = Resolution.resolve (modules s) (requestOf q)
 
+-- where `ws` stands, whatever words are lent, if they are enough
 pub record TenCases : Type 0 where
   -- "(1) the listing"
-  pub case1 : resolve listingSet listingRequest .outcome ≡ Accepted
+  pub case1 : (ws : List ℕ) → wordCount ≤ length ws → resolve listingSet listingRequest ws .outcome ≡ Accepted
   pub case1-modules : membersOf (resolved listingSet listingRequest) ≡ javaBase ∷ pageCore ∷ pageFoot ∷ pageFrames ∷ []
   pub case1-reads : readsOf (requestOf listingRequest) (resolved listingSet listingRequest)
       ≡ (javaBase, []) ∷ (pageCore, javaBase ∷ pageFrames ∷ []) ∷ (pageFoot, javaBase ∷ pageFrames ∷ []) ∷ (pageFrames, javaBase ∷ []) ∷ []
   pub case1-owners : ownersOf (resolved listingSet listingRequest) ≡ (javaLang, some javaBase) ∷ (footPackage, some pageFoot) ∷ (framePackage, some pageFrames) ∷ []
   -- "(2) empty set: 6"
-  pub case2 : resolve [] [] ≡ refused JavaBaseNotFound
+  pub case2 : (ws : List ℕ) → wordCount ≤ length ws → resolve [] [] ws ≡ refused JavaBaseNotFound ws
   -- "(3) java.base alone, no root: one module"
-  pub case3 : resolve baseSet [] .outcome ≡ Accepted
+  pub case3 : (ws : List ℕ) → wordCount ≤ length ws → resolve baseSet [] ws .outcome ≡ Accepted
   pub case3-modules : membersOf (resolved baseSet []) ≡ javaBase ∷ []
   -- "(4) that, root absent a: 5"
-  pub case4 : resolve baseSet rootA ≡ refused (ModuleNotFound Input.Request 5 1)
+  pub case4 : (ws : List ℕ) → wordCount ≤ length ws → resolve baseSet rootA ws ≡ refused (ModuleNotFound Input.Request 5 1) ws
   -- "(5) (4) with empty LM: accepted"
-  pub case5 : resolve baseSet rootANothingPermitted .outcome ≡ Accepted
+  pub case5 : (ws : List ℕ) → wordCount ≤ length ws → resolve baseSet rootANothingPermitted ws .outcome ≡ Accepted
   -- "(6) `foot-notes-2.4.jar`: foot.notes"
   pub case6 : derived footNotesJar ≡ Valid
   pub case6-name : derivedName footNotesJar ≡ footNotes
@@ -66,8 +76,8 @@ pub record TenCases : Type 0 where
   -- "(8) `.jar`: 9"
   pub case8 : derived onlyJar ≡ Named.Refused InvalidAutomaticModuleName
   -- "(9) EX p to b, then EX p unqualified, asker c reading it: NotExported"
-  pub case9-reads : readsName exportsSet (configuration exportsSet rootC) c a ≡ true
-  pub case9 : checkAccess (isReflection Access) exportsSet rootC (configuration exportsSet rootC) c a p ≡ Verdict NotExported
+  pub case9-reads : readsName exportsSet (resolvedTo exportsSet rootC) c a ≡ true
+  pub case9 : checkAccess (isReflection Access) exportsSet rootC (resolvedTo exportsSet rootC) c a p ≡ Verdict NotExported
   -- "(10) java.base, root a, a and b requiring each other transitively: both read themselves"
-  pub case10 : resolve cycleSet rootA .outcome ≡ Accepted
+  pub case10 : (ws : List ℕ) → wordCount ≤ length ws → resolve cycleSet rootA ws .outcome ≡ Accepted
   pub case10-reads : readsOf (requestOf rootA) (resolved cycleSet rootA) ≡ (a, a ∷ b ∷ javaBase ∷ []) ∷ (b, a ∷ b ∷ javaBase ∷ []) ∷ (javaBase, []) ∷ []

@@ -12,20 +12,20 @@ use Rattle.records.specs.Finder.{findModule, pickFound}
 use Rattle.records.specs.declared.finder.Found.{Found}
 use Rattle.records.specs.declared.finder.Found.the-variants.{At, Nothing}
 use Rattle.resolution.specs.Lists.{Name}
-use Rattle.resolution.specs.Row.{holds}
+use Rattle.resolution.specs.Configuration.{memberBit}
 use Rattle.access.specs.Access.{grantsOf, denied, pickResult, granted, unnamedGranted}
 use Rattle.access.specs.declared.access.AccessCheckResult.{AccessCheckResult}
 use Rattle.access.specs.declared.access.AccessCheckResult.the-variants.{Allowed, NotReadable}
 
--- what is found, if it is among the members ws
+-- what is found, if it is a member by the words c of a configuration
 unfoldable pub amongMembers : List ℕ → Found → Found
-amongMembers ws (At i) = pickFound (holds ws i) (At i) Nothing
-amongMembers ws Nothing = Nothing
+amongMembers c (At i) = pickFound (memberBit c i) (At i) Nothing
+amongMembers c Nothing = Nothing
 
 -- the member of this name
 unfoldable pub memberIn : List ℕ → List ℕ → Name → Found
 unfolding amongMembers findModule
-memberIn s ws n = amongMembers ws (findModule s n)
+memberIn s c n = amongMembers c (findModule s n)
 
 -- the module of what is found, by the table t of the set s
 unfoldable pub moduleOf : List ℕ → List ℕ → Found → Option Descriptor

@@ -5,7 +5,7 @@ use Prim.Native.Nat.{ℕ}
 use mathlib.Core.Path.{_≡_}
 use mathlib.Core.Bool.{Bool, true, false}
 use mathlib.Core.List.{List, [], _∷_, _++_, map}
-use lib.ListN.{replicate}
+use lib.ListN.{take, drop, replicate}
 use Rattle.records.specs.Name.{javaBase, allUnnamed}
 use Rattle.records.specs.Set.{checkSet, accepted, refused}
 use Rattle.records.specs.Places.{places}
@@ -18,27 +18,31 @@ use Rattle.records.specs.declared.error.Input.the-variants.{Set, Request, Packa
 use Rattle.records.specs.declared.error.ModuleError.{ModuleError}
 use Rattle.records.specs.declared.error.ModuleError.the-variants.{Malformed, TooLarge, Repeated, OutputTooShort, ModuleNotFound, JavaBaseNotFound, SplitPackage, DescriptorParseError, InvalidAutomaticModuleName, InvalidModuleName}
 use Rattle.records.specs.declared.jar.Written.the-variants as Jar
+use Rattle.resolution.specs.Configuration.{memberWords, memberBit, edgeBit, unnamedBit}
 use Rattle.resolution.specs.Lists.{Name}
+use Rattle.resolution.specs.PackageOwner.{findModuleForPackage}
 use Rattle.resolution.specs.Resolve.{resolve}
 use Rattle.resolution.specs.Absent.{absentName}
 use Rattle.resolution.specs.Cases.{a, b, c}
-use Rattle.resolution.specs.declared.configuration.Configuration.{Configuration}
+use Rattle.resolution.specs.declared.owner.Owner.the-variants as Owner
 use Rattle.resolution.specs.declared.resolve.Outcome.{Outcome}
 use Rattle.resolution.specs.declared.resolve.Outcome.the-variants.{Accepted, Refused}
 use Rattle.access.specs.Access.{readsName, isReflection, checkAccess}
 use Rattle.access.specs.CanRead.{canRead}
-use Rattle.access.specs.Cases.{p}
+use Rattle.access.specs.Cases.{p, lent, resolvedTo}
 use Rattle.access.specs.Demand3.{configuration}
 use Rattle.access.specs.Form.{marked, named, moduleWith, requiresWith, MO, MO-open, MO-automatic, RQ, RQ-transitive, EX, OP, US, PV, PK, MC, PL, RT, LM, AR, AE, AO}
 use Rattle.access.specs.PlaceCases.{q, PlaceCases}
-use Rattle.access.specs.ReadGraph.{readsAt, Leads, readersOf}
+use Rattle.access.specs.ReadGraph.{readsAt, Leads, readersOf, transitiveReads}
 use Rattle.access.specs.declared.access.AccessKind.the-variants.{Access, Reflection}
 use Rattle.access.specs.declared.access.AccessAnswer.{AccessAnswer}
 use Rattle.access.specs.declared.access.AccessAnswer.the-variants.{Verdict}
 use Rattle.access.specs.declared.access.AccessAnswer.the-variants as Answer
 use Rattle.access.specs.declared.access.AccessCheckResult.the-variants.{Allowed, NotReadable, NotExported, NotOpened}
 use Rattle.access.specs.declared.access.ReadAnswer.the-variants.{Reads}
+use Rattle.access.specs.declared.access.ReadAnswer.the-variants as Read
 use Rattle.access.specs.declared.graph.GraphOutcome.the-variants.{Answered}
+use Rattle.access.specs.declared.graph.GraphOutcome.the-variants as Graph
 
 -- the services s and t
 unfoldable pub s : Name
@@ -102,34 +106,68 @@ jarRecords = MO-automatic jarModule ++ requiresWith 0x80 0 javaBase ++ EX p [] +
 -- ---- questions, over the configuration that the set and the request resolve to
 
 abbrev pub outcome : List ℕ → List ℕ → Outcome
-outcome set rq = resolve set rq .outcome
+outcome set rq = resolve set rq lent .outcome
 
 abbrev pub members : List ℕ → List ℕ → List ℕ
-members set rq = configuration set rq .members
+members set rq = memberWords (resolvedTo set rq)
 
 -- x reads y
 abbrev pub reads : List ℕ → List ℕ → Name → Name → Bool
-reads set rq x y = readsName set (configuration set rq) x y
+reads set rq x y = readsName set (resolvedTo set rq) x y
 
 abbrev pub access : List ℕ → List ℕ → Name → Name → Name → AccessAnswer
-access set rq asker target pkg = checkAccess (isReflection Access) set rq (configuration set rq) asker target pkg
+access set rq asker target pkg = checkAccess (isReflection Access) set rq (resolvedTo set rq) asker target pkg
 
 abbrev pub reflection : List ℕ → List ℕ → Name → Name → Name → AccessAnswer
-reflection set rq asker target pkg = checkAccess (isReflection Reflection) set rq (configuration set rq) asker target pkg
+reflection set rq asker target pkg = checkAccess (isReflection Reflection) set rq (resolvedTo set rq) asker target pkg
 
--- these positions below 64, as four words
+-- these positions below 64, as eight words
 abbrev pub word : ℕ → List ℕ
-word w = w ∷ 0 ∷ 0 ∷ 0 ∷ []
+word w = w ∷ 0 ∷ 0 ∷ 0 ∷ 0 ∷ 0 ∷ 0 ∷ 0 ∷ []
 
 -- members as given, and one edge: from a to b
-abbrev pub edgeFromA : ℕ → Configuration
-edgeFromA w = record { members = word w; reads = 0 ∷ 0 ∷ 0 ∷ 0 ∷ 4 ∷ replicate 1019 0; unnamed = word 0 }
+abbrev pub edgeFromA : ℕ → List ℕ
+edgeFromA w = word w ++ replicate 9 0 ++ (4 ∷ replicate 4598 0)
 
 -- one refusal of each kind
 abbrev pub errors : List ModuleError
 errors = Malformed Packages 11 ∷ TooLarge 12 ∷ Repeated 13 ∷ OutputTooShort 14 ∷ ModuleNotFound Request 15 16 ∷ JavaBaseNotFound ∷ SplitPackage 17 18 19 20 ∷ DescriptorParseError 21 ∷ InvalidAutomaticModuleName ∷ InvalidModuleName ∷ []
 
 pub record RuleCases : Type 0 where
+  -- ---- the words of a configuration (U12)
+  -- "A shorter slice is an output too short, number 4 with 4,616, tested after the records and before resolution": an empty set,
+  -- which is 6, is 4, a malformed request is 1
+  pub words-short : resolve base [] (replicate 4615 7) .outcome ≡ Refused (OutputTooShort 4616)
+  pub words-enough : resolve base [] (replicate 4616 7) .outcome ≡ Accepted
+  pub words-before-resolution : resolve [] [] [] .outcome ≡ Refused (OutputTooShort 4616)
+  pub words-after-set : resolve (80 ∷ []) [] [] .outcome ≡ Refused (Malformed Set 0)
+  pub words-after-request : resolve base (80 ∷ []) [] .outcome ≡ Refused (Malformed Request 0)
+  -- "words beyond stay unchanged, and a refusal changes none"
+  pub words-beyond : drop 4616 (configuration base [] (replicate 4618 7)) ≡ 7 ∷ 7 ∷ []
+  pub words-kept : configuration base (RT b) (replicate 4617 7) ≡ replicate 4617 7
+  pub words-short-kept : configuration base [] (replicate 4615 7) ≡ replicate 4615 7
+  -- "in questions too"
+  pub words-asked : checkAccess (isReflection Access) base [] (replicate 4615 0) a b p ≡ Answer.Refused (OutputTooShort 4616)
+  pub words-asked-after : checkAccess (isReflection Access) base (80 ∷ []) [] a b p ≡ Answer.Refused (Malformed Request 0)
+  pub words-read : canRead base [] a a ≡ Read.Refused (OutputTooShort 4616)
+  pub words-read-after : canRead (80 ∷ []) [] a a ≡ Read.Refused (Malformed Set 0)
+  pub words-readers : readersOf base [] a ≡ record { outcome = Graph.Refused (OutputTooShort 4616); row = word 0; unnamed = false }
+  pub words-transitive : transitiveReads base [] a ≡ record { outcome = Graph.Refused (OutputTooShort 4616); row = word 0; unnamed = false }
+  pub words-owner : findModuleForPackage base [] p ≡ Owner.Refused (OutputTooShort 4616)
+  -- "eight for the members, then for each module eight for its edges and one whose lowest bit is ALL-UNNAMED": java.base; a, which reads it
+  -- and by AR itself and ALL-UNNAMED
+  pub words-laid : take 26 (configuration (base ++ MO a) (RT a ++ AR a a ++ AR a allUnnamed) (replicate 4616 7))
+      ≡ 3 ∷ 0 ∷ 0 ∷ 0 ∷ 0 ∷ 0 ∷ 0 ∷ 0 ∷ 0 ∷ 0 ∷ 0 ∷ 0 ∷ 0 ∷ 0 ∷ 0 ∷ 0 ∷ 0 ∷ 3 ∷ 0 ∷ 0 ∷ 0 ∷ 0 ∷ 0 ∷ 0 ∷ 0 ∷ 1 ∷ []
+  -- ".. all other bits and rows of non-members zero": the rows behind, and that of a module that is not resolved
+  pub words-rest : drop 26 (configuration (base ++ MO a) (RT a ++ AR a a ++ AR a allUnnamed) (replicate 4616 7)) ≡ replicate 4590 0
+  pub words-of-others : configuration (base ++ MO a) [] (replicate 4616 7) ≡ 1 ∷ replicate 4615 0
+  -- "lowest bit first", at the first position of a second word and at the last of all
+  pub words-second : map (memberBit (0 ∷ 1 ∷ [])) (63 ∷ 64 ∷ 65 ∷ []) ≡ false ∷ true ∷ false ∷ []
+  pub words-last-edge : edgeBit (replicate 4614 0 ++ (9223372036854775808 ∷ [])) 511 511 ≡ true
+  pub words-last : unnamedBit (replicate 4615 0 ++ (1 ∷ [])) 511 ≡ true
+  -- of a ninth word the lowest bit alone is read
+  pub words-ninth : readsName (base ++ MO a) (word 3 ++ replicate 9 0 ++ (replicate 8 0 ++ (2 ∷ replicate 4590 0))) a allUnnamed ≡ false
+  pub words-ninth-odd : readsName (base ++ MO a) (word 3 ++ replicate 9 0 ++ (replicate 8 0 ++ (3 ∷ replicate 4590 0))) a allUnnamed ≡ true
   -- ---- reads
   -- "then AR": an edge, and none backwards; without it there is none
   pub add-read : reads (beside (MO b)) (RT a ++ RT b ++ AR a b) a b ≡ true
@@ -138,9 +176,9 @@ pub record RuleCases : Type 0 where
   -- "Edges to unresolved names go": AR makes no member
   pub add-read-unresolved : reads (beside (MO b)) (RT a ++ AR a b) a b ≡ false
   pub add-read-members : members (beside (MO b)) (RT a ++ AR a b) ≡ word 0b011
-  pub add-read-of-unresolved : configuration (beside (MO b)) (RT a ++ AR b allUnnamed) .unnamed ≡ word 0
+  pub add-read-of-unresolved : map (unnamedBit (resolvedTo (beside (MO b)) (RT a ++ AR b allUnnamed))) (0 ∷ 1 ∷ 2 ∷ []) ≡ false ∷ false ∷ false ∷ []
   -- ".. ALL-UNNAMED stays": it is read by a alone
-  pub add-read-unnamed : configuration (beside (MO b)) (RT a ++ RT b ++ AR a allUnnamed) .unnamed ≡ word 0b010
+  pub add-read-unnamed : map (unnamedBit (resolvedTo (beside (MO b)) (RT a ++ RT b ++ AR a allUnnamed))) (0 ∷ 1 ∷ 2 ∷ []) ≡ false ∷ true ∷ false ∷ []
   pub add-read-unnamed-asked : access (beside (MO b)) (RT a ++ RT b ++ AR a allUnnamed) a allUnnamed p ≡ Verdict NotExported
   pub add-read-unnamed-not : access (beside (MO b)) (RT a ++ RT b ++ AR a allUnnamed) b allUnnamed p ≡ Verdict NotReadable
   -- "an automatic module reads all others": not itself, nor ALL-UNNAMED; and they do not read it
@@ -168,15 +206,19 @@ pub record RuleCases : Type 0 where
   -- its target need not be one: it is readable, and its EX grants nothing
   pub edge-to-non-member : checkAccess (isReflection Access) (beside (MO b ++ EX p [])) [] (edgeFromA 0b010) a b p ≡ Verdict NotExported
   -- "`transitive_reads` (one edge or more)": from a to b, and through b to c, which a does not read
-  pub one-edge : Leads (readsAt chainBroken (configuration chainBroken (RT a))) 1 2
-  pub two-edges : Leads (readsAt chainBroken (configuration chainBroken (RT a))) 1 3
+  pub one-edge : Leads (readsAt chainBroken (resolvedTo chainBroken (RT a))) 1 2
+  pub two-edges : Leads (readsAt chainBroken (resolvedTo chainBroken (RT a))) 1 3
+  pub transitive : transitiveReads chainBroken (resolvedTo chainBroken (RT a)) a ≡ record { outcome = Answered; row = word 0b1101; unnamed = false }
+  pub transitive-unnamed : transitiveReads chainBroken (resolvedTo chainBroken (RT a ++ AR c allUnnamed)) a ≡ record { outcome = Answered; row = word 0b1101; unnamed = true }
+  -- "a name without any gives the empty set"
+  pub transitive-none : transitiveReads chainBroken (resolvedTo chainBroken (RT a)) t ≡ record { outcome = Answered; row = word 0; unnamed = false }
   -- `readers_of`; `can_read`: by an edge, java.base, and the same name, known or not
-  pub readers : readersOf chain (configuration chain (RT a)) c ≡ record { outcome = Answered; row = word 0b0110; unnamed = false }
-  pub can-read : canRead chain (configuration chain (RT a)) a c ≡ Reads true
-  pub can-read-back : canRead chain (configuration chain (RT a)) c a ≡ Reads false
-  pub can-read-base : canRead chain (configuration chain (RT a)) t javaBase ≡ Reads true
-  pub can-read-itself : canRead chain (configuration chain (RT a)) t t ≡ Reads true
-  pub can-read-unknown : canRead chain (configuration chain (RT a)) t a ≡ Reads false
+  pub readers : readersOf chain (resolvedTo chain (RT a)) c ≡ record { outcome = Answered; row = word 0b0110; unnamed = false }
+  pub can-read : canRead chain (resolvedTo chain (RT a)) a c ≡ Reads true
+  pub can-read-back : canRead chain (resolvedTo chain (RT a)) c a ≡ Reads false
+  pub can-read-base : canRead chain (resolvedTo chain (RT a)) t javaBase ≡ Reads true
+  pub can-read-itself : canRead chain (resolvedTo chain (RT a)) t t ≡ Reads true
+  pub can-read-unknown : canRead chain (resolvedTo chain (RT a)) t a ≡ Reads false
   -- ---- which modules start
   -- a requirement that is not static refuses where it is absent
   pub not-static-absent : outcome (beside (RQ b)) (RT a) ≡ Refused (ModuleNotFound Set 35 1)
@@ -211,9 +253,9 @@ pub record RuleCases : Type 0 where
   pub queue-root-first : outcome (requiring []) (RT a ++ RT c) ≡ Refused (ModuleNotFound Request 11 1)
   pub queue-first-record : outcome (beside (RQ c ++ MO b ++ RQ c)) (RT a ++ RT b) ≡ Refused (ModuleNotFound Set 35 1)
   -- 7: "packages, in byte order, are tested for another owner": package p of the second module, the owner, the second; the second is
-  -- the later in the queue. The configuration is all zeros
+  -- the later in the queue. The lent words stay
   pub split : outcome sharing (RT a ++ RT b) ≡ Refused (SplitPackage 61 1 1 2)
-  pub split-zeros : configuration sharing (RT a ++ RT b) ≡ record { members = word 0; reads = replicate 1024 0; unnamed = word 0 }
+  pub split-words : configuration sharing (RT a ++ RT b) (replicate 4616 7) ≡ replicate 4616 7
   pub split-back : outcome sharing (RT b ++ RT a) ≡ Refused (SplitPackage 39 1 2 1)
   -- the first PK of the package is told; and packages are tested before requirements
   pub split-first : outcome (beside (PK p ++ MO b ++ PK p ++ PK p)) (RT a ++ RT b) ≡ Refused (SplitPackage 49 1 1 2)

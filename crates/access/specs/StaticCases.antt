@@ -16,8 +16,8 @@ use Rattle.records.specs.declared.jar.Written.the-variants as Jar
 use Rattle.resolution.specs.Cases.{a, b, c}
 use Rattle.resolution.specs.declared.resolve.Outcome.the-variants.{Accepted, Refused}
 use Rattle.access.specs.Access.{isMember}
-use Rattle.access.specs.Cases.{p}
-use Rattle.access.specs.Demand3.{configuration, Grows}
+use Rattle.access.specs.Cases.{p, resolvedTo}
+use Rattle.access.specs.Demand3.{Grows}
 use Rattle.access.specs.Form.{marked, named, requiresWith, MO, MO-automatic, RQ, RQ-transitive, RQ-static, US, PV, PK, PL, RT, LM, ST, AR, AE}
 use Rattle.access.specs.PlaceCases.{q}
 use Rattle.access.specs.RuleCases.{s, t, base, beside, requiring, outcome, members, reads, access, word}
@@ -141,8 +141,8 @@ pub record StaticCases : Type 0 where
   pub dropped-to : requestOf (RT a) ≡ record { roots = a ∷ []; limit = none; addReads = []; addExports = []; addOpens = []; hasStatic = false }
   pub dropped-first : outcome (beside (RQ-static b ++ MO b)) (RT a ++ ST) ≡ Accepted
   pub dropped-second : outcome (beside (RQ-static b ++ MO b)) (RT a) ≡ Accepted
-  pub dropped-member : isMember (beside (RQ-static b ++ MO b)) (configuration (beside (RQ-static b ++ MO b)) (RT a ++ ST)) b ≡ true
-  pub dropped-lost : isMember (beside (RQ-static b ++ MO b)) (configuration (beside (RQ-static b ++ MO b)) (RT a)) b ≡ false
+  pub dropped-member : isMember (beside (RQ-static b ++ MO b)) (resolvedTo (beside (RQ-static b ++ MO b)) (RT a ++ ST)) b ≡ true
+  pub dropped-lost : isMember (beside (RQ-static b ++ MO b)) (resolvedTo (beside (RQ-static b ++ MO b)) (RT a)) b ≡ false
   -- questions take a request with ST
   pub static-asked : access (beside (RQ-static b ++ MO b)) (RT a ++ ST ++ AE b p a) a b p ≡ Verdict Allowed
   pub static-twice-asked : access base (ST ++ ST) a a p ≡ Access.Refused (Malformed Request 4)

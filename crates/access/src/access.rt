@@ -9,7 +9,7 @@ ghost use Rattle.records.specs.Set.{checkSet};
 ghost use Rattle.records.specs.Finder.{findModule};
 ghost use Rattle.records.specs.declared.set.SetAnswer.the-variants.{Modules};
 ghost use Rattle.resolution.specs.Lookup.{Lookup};
-ghost use Rattle.resolution.specs.Row.{holds};
+ghost use Rattle.resolution.specs.Configuration.{edgeBit, unnamedBit};
 ghost use Rattle.access.specs.Access.{passes, readsName, isReflection, grantsOf, denied as deniedBy, pickResult, grants as grantsBy, granted as grantedBy, unnamedGranted, checkAccess};
 ghost use Rattle.access.specs.Members.{moduleOf, verdictBy};
 ghost use Rattle.access.specs.CanRead.{canRead};
@@ -28,11 +28,10 @@ use records::request::has_grant;
 use records::set::SetAnswer;
 use records::set::block;
 use records::set::check_set_with;
+use records::sorted::INDEX_LENGTH;
 use records::sorted::find_in;
-use resolution::configuration::Configuration;
-use resolution::configuration::row_of;
-use resolution::row::Row;
-use resolution::row::has;
+use resolution::configuration::reads;
+use resolution::configuration::reads_unnamed;
 
 // What is asked.
 pub enum AccessKind {
@@ -47,13 +46,13 @@ pub enum AccessCheckResult {
     NotOpened,
 }
 
-// The verdict, or why the set or the request is refused.
+// The verdict, or why the set, the request or the words are refused.
 pub enum AccessAnswer {
     Verdict(AccessCheckResult),
     Refused(ModuleError),
 }
 
-// Whether one module can read another, or why the set is refused.
+// Whether one module can read another, or why the set or the words are refused.
 pub enum ReadAnswer {
     Reads(bool),
     Refused(ModuleError),
@@ -69,25 +68,25 @@ fn is_unnamed(name: &[u8], unnamed: bool) -> bool
     false
 }
 
-// Whether the row holds the module of this name, or, where it reads ALL-UNNAMED, the name is that.
+// Whether an edge leads from i to the module of this name, or the name is ALL-UNNAMED and i reads that.
 fn leads_to(
     set: &[u8],
     starts: &[usize],
     count: usize,
     index: &[usize],
-    row: Row,
-    unnamed: bool,
+    words: &[u64],
+    i: usize,
     to: &[u8],
 ) -> bool
     requires { ⌜ checkSet (now set) ≡ record { answer = Modules count; starts = now starts } ⌝ }
     requires { ⌜ Lookup (now set) (now starts) count (now index) ⌝ }
-    ensures { λ r. ⌜ r ≡ passes (holds (row .words)) (findModule (now (set .entry)) (now (to .entry))) || (sameBytes (now (to .entry)) allUnnamed && unnamed) ⌝ }
+    ensures { λ r. ⌜ r ≡ passes (edgeBit (now (words .entry)) i) (findModule (now (set .entry)) (now (to .entry))) || (sameBytes (now (to .entry)) allUnnamed && unnamedBit (now (words .entry)) i) ⌝ }
 {
-    if is_unnamed(to, unnamed) {
+    if is_unnamed(to, reads_unnamed(words, i)) {
         return true;
     }
     match find_in(set, starts, count, index, to) {
-        Found::At(j) => has(row, j),
+        Found::At(j) => reads(words, i, j),
         Found::Nothing => false,
     }
 }
@@ -98,29 +97,16 @@ fn reads_name(
     starts: &[usize],
     count: usize,
     index: &[usize],
-    configuration: Configuration,
+    words: &[u64],
     from: &[u8],
     to: &[u8],
 ) -> bool
     requires { ⌜ checkSet (now set) ≡ record { answer = Modules count; starts = now starts } ⌝ }
     requires { ⌜ Lookup (now set) (now starts) count (now index) ⌝ }
-    ensures { λ r. ⌜ r ≡ readsName (now (set .entry)) configuration (now (from .entry)) (now (to .entry)) ⌝ }
+    ensures { λ r. ⌜ r ≡ readsName (now (set .entry)) (now (words .entry)) (now (from .entry)) (now (to .entry)) ⌝ }
 {
-    let members = configuration.members;
-    let unnamed = configuration.unnamed;
-    match member(set, starts, count, index, Row { words: members }, from) {
-        Found::At(i) => {
-            let last = has(Row { words: unnamed }, i);
-            leads_to(
-                set,
-                starts,
-                count,
-                index,
-                row_of(configuration, i),
-                last,
-                to,
-            )
-        }
+    match member(set, starts, count, index, words, from) {
+        Found::At(i) => leads_to(set, starts, count, index, words, i, to),
         Found::Nothing => false,
     }
 }
@@ -264,28 +250,31 @@ fn verdict(
     AccessCheckResult::NotReadable
 }
 
-// Whether the asker may access the package of the target, or reflect on it. The set and the request are checked first.
+// Whether the asker may access the package of the target, or reflect on it, over the words of a configuration. The set and the request
+// are checked first, then the number of words.
 pub fn check_access(
     set: &[u8],
     request: &[u8],
-    configuration: Configuration,
+    words: &[u64],
     kind: AccessKind,
     asker: &[u8],
     target: &[u8],
     pkg: &[u8],
 ) -> AccessAnswer
-    ensures { λ r. ⌜ r ≡ checkAccess (isReflection kind) (now (set .entry)) (now (request .entry)) configuration (now (asker .entry)) (now (target .entry)) (now (pkg .entry)) ⌝ }
+    ensures { λ r. ⌜ r ≡ checkAccess (isReflection kind) (now (set .entry)) (now (request .entry)) (now (words .entry)) (now (asker .entry)) (now (target .entry)) (now (pkg .entry)) ⌝ }
 {
-    let mut index = [0usize; 1026];
+    let mut index = [0usize; INDEX_LENGTH];
     let checked = check_with(set, request, &mut index);
     let answer = checked.answer;
     match answer {
         SetAnswer::Refused(e) => AccessAnswer::Refused(e),
         SetAnswer::Modules(n) => {
+            if words.len() < 4616 {
+                return AccessAnswer::Refused(ModuleError::OutputTooShort(4616));
+            }
             let starts = checked.starts;
-            let words = configuration.members;
-            let found = member(set, &starts, n, &index, Row { words }, target);
-            let edge = reads_name(set, &starts, n, &index, configuration, asker, target);
+            let found = member(set, &starts, n, &index, words, target);
+            let edge = reads_name(set, &starts, n, &index, words, asker, target);
             let v = verdict(set, &starts, found, request, edge, kind, asker, target, pkg);
             AccessAnswer::Verdict(v)
         }
@@ -293,20 +282,23 @@ pub fn check_access(
 }
 
 // Whether a module of the first name can read one of the second: equal names, java.base, or a read edge.
-pub fn can_read(set: &[u8], configuration: Configuration, from: &[u8], to: &[u8]) -> ReadAnswer
-    ensures { λ r. ⌜ r ≡ canRead (now (set .entry)) configuration (now (from .entry)) (now (to .entry)) ⌝ }
+pub fn can_read(set: &[u8], words: &[u64], from: &[u8], to: &[u8]) -> ReadAnswer
+    ensures { λ r. ⌜ r ≡ canRead (now (set .entry)) (now (words .entry)) (now (from .entry)) (now (to .entry)) ⌝ }
 {
-    let mut index = [0usize; 1026];
+    let mut index = [0usize; INDEX_LENGTH];
     let checked = check_set_with(set, &mut index);
     let answer = checked.answer;
     match answer {
         SetAnswer::Refused(e) => ReadAnswer::Refused(e),
         SetAnswer::Modules(n) => {
+            if words.len() < 4616 {
+                return ReadAnswer::Refused(ModuleError::OutputTooShort(4616));
+            }
             if same(from, to) {
                 return ReadAnswer::Reads(true);
             }
             let starts = checked.starts;
-            let edge = reads_name(set, &starts, n, &index, configuration, from, to);
+            let edge = reads_name(set, &starts, n, &index, words, from, to);
             ReadAnswer::Reads(readable(edge, to))
         }
     }

@@ -6,8 +6,7 @@ ghost use Rattle.resolution.specs.Lookup.{Lookup};
 ghost use Rattle.access.specs.Members.{memberIn};
 use records::finder::Found;
 use records::sorted::find_in;
-use resolution::row::Row;
-use resolution::row::has;
+use resolution::configuration::contains;
 
 // The member of this name.
 pub fn member(
@@ -15,16 +14,16 @@ pub fn member(
     starts: &[usize],
     count: usize,
     index: &[usize],
-    members: Row,
+    words: &[u64],
     name: &[u8],
 ) -> Found
     requires { ⌜ checkSet (now set) ≡ record { answer = Modules count; starts = now starts } ⌝ }
     requires { ⌜ Lookup (now set) (now starts) count (now index) ⌝ }
-    ensures { λ r. ⌜ r ≡ memberIn (now (set .entry)) (members .words) (now (name .entry)) ⌝ }
+    ensures { λ r. ⌜ r ≡ memberIn (now (set .entry)) (now (words .entry)) (now (name .entry)) ⌝ }
 {
     match find_in(set, starts, count, index, name) {
         Found::At(i) => {
-            if has(members, i) {
+            if contains(words, i) {
                 return Found::At(i);
             }
             Found::Nothing

@@ -29,7 +29,7 @@ pub fn be32(s: &[u8]) -> usize {
 }
 
 // Eight bytes as a word.
-fn word(s: &[u8]) -> u64 {
+pub fn word(s: &[u8]) -> u64 {
     let high = be32(s) as u64;
     let low = be32(tail(s, 4)) as u64;
     (high << 32) | low
@@ -45,30 +45,34 @@ pub fn behind(s: &[u8]) -> &[u8] {
     tail(tail(s, 4), be32(s))
 }
 
-// The four words at the front.
+// The eight words at the front.
 pub fn row(s: &[u8]) -> Row {
     let words = [
         word(s),
         word(tail(s, 8)),
         word(tail(s, 16)),
         word(tail(s, 24)),
+        word(tail(s, 32)),
+        word(tail(s, 40)),
+        word(tail(s, 48)),
+        word(tail(s, 56)),
     ];
     Row { words }
 }
 
-pub fn is_row(a: Row, b: Row) -> bool {
-    let x = a.words;
-    let y = b.words;
-    if x[0] != y[0] {
+// As many words, and the same ones.
+pub fn is_same(a: &[u64], b: &[u64]) -> bool {
+    if a.len() != b.len() {
         return false;
     }
-    if x[1] != y[1] {
-        return false;
+    let mut k: usize = 0;
+    while k < a.len() {
+        if a[k] != b[k] {
+            return false;
+        }
+        k += 1;
     }
-    if x[2] != y[2] {
-        return false;
-    }
-    x[3] == y[3]
+    true
 }
 
 pub fn is_flag(on: bool, stored: usize) -> bool {

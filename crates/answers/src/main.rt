@@ -1,12 +1,12 @@
-// Replays the fixed list of answers in the file `cases`: resolutions with their refusals, verdicts, owners and readers over resolved
+// Replays the fixed list of answers in the files `cases` and `more`: resolutions with their refusals, verdicts, owners and readers over resolved
 // and over other configurations, and records of jars. Each line tells the answer given here, and what differs from the stored one.
 // tests/answers makes the list: by the original at the commit named in NOTICE, built unchanged; by compare/src/second.rs for static
-// requirements without ST, which the original does not know; and by hand from document 01 and, for places and ST, U2 and U6 of
+// requirements without ST, which the original does not know; and by hand from document 01 and, for places, ST and words, U2, U6 and U12 of
 // document 02 for what neither answers. Refusal 8 and class files are in the program `classes`.
 //
-// A text is its length in four bytes and its bytes. A row is four words of positions, then one byte: 1 with ALL-UNNAMED, else 0. A
-// configuration is the four words of its members and a row for each position from 0 on. A refusal is which input (0 none, 1 set,
-// 2 request, 3 package records), four bytes of offset or bytes needed, and two bytes each: length of the name or package at that
+// A text is its length in four bytes and its bytes. A row is eight words of positions, then one byte: 1 with ALL-UNNAMED, else 0. A
+// configuration is the eight words of its members and a row for each position from 0 on. A refusal is which input (0 none, 1 set,
+// 2 request, 3 package records), four bytes of offset or of what is needed, and two bytes each: length of the name or package at that
 // offset, owner, second module. A case is the text of its name, its kind, and then
 // R: texts of a set and a request, the number (0 where accepted), the text of the configuration or the refusal, the text of entries;
 // C: texts of a set, a request, a configuration, entries; J: texts of a jar name, a manifest name and package records, whether the
@@ -19,23 +19,26 @@ mod reads;
 mod refusal;
 mod rows;
 
+ghost use Prim.Native.Nat.{_≤_};
+ghost use lib.ListN.{length};
 use crate::form::behind;
 use crate::form::expect;
-use crate::form::is_row;
+use crate::form::is_same;
 use crate::form::number;
-use crate::form::row;
 use crate::form::say;
 use crate::form::text;
 use crate::question::ask;
-use crate::reads::edges_of;
+use crate::reads::add_rows;
+use crate::reads::has_rows;
 use crate::reads::is_reads;
 use crate::refusal::expect_check;
+use crate::refusal::expect_needed;
 use crate::refusal::expect_question;
 use crate::refusal::expect_refusal;
 use crate::refusal::print_refusal;
 use crate::refusal::refusal_of;
-use crate::rows::configuration;
-use crate::rows::has_rows;
+use crate::rows::is_filled;
+use crate::rows::put_rows;
 use records::bytes::byte;
 use records::bytes::head;
 use records::bytes::same;
@@ -43,27 +46,35 @@ use records::bytes::tail;
 use records::error::ModuleError;
 use records::jar::Written;
 use records::jar::automatic_from_jar_name;
-use resolution::configuration::Configuration;
 use resolution::resolve::Outcome;
-use resolution::row::Row;
 
-// The stored rows give the same words where each edge is added by itself. Tells how many there are.
-fn expect_edges(c: Configuration, rows: &[u8]) {
-    let e = edges_of(rows);
-    say(b" reads");
-    number(e.count);
-    expect(is_reads(c, e.configuration), b"edges");
+// The words are those of the stored members and rows, and one behind them that is 7.
+fn expect_words(words: &[u64], s: &[u8]) {
+    let mut wanted = [7u64; 4617];
+    put_rows(&mut wanted, s);
+    expect(is_same(words, &wanted), b"words");
+    expect(has_rows(words, tail(s, 64)), b"reads");
 }
 
-fn accepted(set: &[u8], request: &[u8], c: Configuration, stored: usize, s: &[u8], entries: &[u8]) {
+// The stored rows give the same words where each edge is added by itself. Tells how many there are.
+fn expect_edges(words: &[u64], rows: &[u8])
+    requires { ⌜ 4616 ≤ length (now words) ⌝ }
+{
+    let mut made = [0u64; 4616];
+    say(b" reads");
+    number(add_rows(&mut made, rows));
+    expect(is_reads(words, &made), b"edges");
+}
+
+fn accepted(set: &[u8], request: &[u8], words: &[u64], stored: usize, s: &[u8], entries: &[u8])
+    requires { ⌜ 4616 ≤ length (now words) ⌝ }
+{
     say(b" resolved");
-    number(resolution::configuration::len(c));
+    number(resolution::configuration::len(words));
     expect(stored == 0, b"number");
-    let words = c.members;
-    expect(is_row(Row { words }, row(s)), b"members");
-    expect(has_rows(c, tail(s, 32)), b"reads");
-    expect_edges(c, tail(s, 32));
-    ask(set, request, c, entries);
+    expect_words(words, s);
+    expect_edges(words, tail(s, 64));
+    ask(set, request, words, entries);
 }
 
 fn refused(set: &[u8], request: &[u8], e: ModuleError, stored: usize, s: &[u8]) {
@@ -74,14 +85,29 @@ fn refused(set: &[u8], request: &[u8], e: ModuleError, stored: usize, s: &[u8]) 
     expect_question(set, request, stored, s);
 }
 
-// A set and a request, the stored number and what goes with it, and entries.
-fn resolve(set: &[u8], request: &[u8], stored: usize, s: &[u8], entries: &[u8]) {
-    let r = resolution::resolve::resolve(set, request);
-    let outcome = r.outcome;
-    match outcome {
-        Outcome::Accepted => accepted(set, request, r.configuration, stored, s, entries),
-        Outcome::Refused(e) => refused(set, request, e, stored, s),
+// One word too few: what is refused with 1 to 3 still is, all else is refused with 4. No word changes.
+fn expect_short(set: &[u8], request: &[u8], stored: usize, s: &[u8]) {
+    let mut words = [7u64; 4615];
+    match resolution::resolve::resolve(set, request, &mut words) {
+        Outcome::Accepted => expect(false, b"too few words"),
+        Outcome::Refused(e) => expect_needed(refusal_of(e), stored, s),
     }
+    expect(is_filled(&words), b"too few words changed");
+}
+
+// A set and a request, the stored number and what goes with it, and entries. Of the words lent one is too many, and stays as it is;
+// so do all where it is refused.
+fn resolve(set: &[u8], request: &[u8], stored: usize, s: &[u8], entries: &[u8]) {
+    let mut words = [7u64; 4617];
+    let outcome = resolution::resolve::resolve(set, request, &mut words);
+    match outcome {
+        Outcome::Accepted => accepted(set, request, &words, stored, s, entries),
+        Outcome::Refused(e) => {
+            refused(set, request, e, stored, s);
+            expect(is_filled(&words), b"words changed");
+        }
+    }
+    expect_short(set, request, stored, s);
 }
 
 // A resolution at the front; what stands behind it.
@@ -100,7 +126,9 @@ fn configuration_case(s: &[u8]) -> &[u8] {
     let u = behind(t);
     let v = behind(u);
     say(b" asked");
-    ask(text(s), text(t), configuration(text(u)), text(v));
+    let mut words = [0u64; 4616];
+    put_rows(&mut words, text(u));
+    ask(text(s), text(t), &words, text(v));
     behind(v)
 }
 
@@ -193,14 +221,20 @@ fn run(cases: &[u8]) {
     }
 }
 
-fn main() {
-    let fd = os::open_read(b"cases");
+// The cases in this file.
+fn run_file(name: &[u8]) {
+    let fd = os::open_read(name);
     if fd < 0 {
-        os::fail(b"answers: cannot read the file cases");
+        os::fail(b"answers: cannot read the file");
         return;
     }
     let mut buffer = [0u8; 524288];
     let n = io::read_full(fd, &mut buffer);
     libc::close(fd);
     run(head(&buffer, n));
+}
+
+fn main() {
+    run_file(b"cases");
+    run_file(b"more");
 }

@@ -2,7 +2,7 @@
 use crate::form::behind;
 use crate::form::expect;
 use crate::form::is_flag;
-use crate::form::is_row;
+use crate::form::is_same;
 use crate::form::number;
 use crate::form::row;
 use crate::form::say;
@@ -18,7 +18,6 @@ use access::graph::transitive_reads;
 use records::bytes::be16;
 use records::bytes::byte;
 use records::bytes::tail;
-use resolution::configuration::Configuration;
 use resolution::owner::Owner;
 use resolution::owner::find_module_for_package;
 use resolution::row::Row;
@@ -67,14 +66,14 @@ fn print_verdicts(access: usize, reflection: usize, s: &[u8]) {
 }
 
 // A question at the front; what stands behind it.
-fn question<'a>(set: &[u8], request: &[u8], c: Configuration, s: &'a [u8]) -> &'a [u8] {
+fn question<'a>(set: &[u8], request: &[u8], words: &[u64], s: &'a [u8]) -> &'a [u8] {
     let t = behind(s);
     let u = behind(t);
     let v = behind(u);
     let access = AccessKind::Access;
-    let a = verdict_of(check_access(set, request, c, access, text(s), text(t), text(u)));
+    let a = verdict_of(check_access(set, request, words, access, text(s), text(t), text(u)));
     let reflection = AccessKind::Reflection;
-    let r = verdict_of(check_access(set, request, c, reflection, text(s), text(t), text(u)));
+    let r = verdict_of(check_access(set, request, words, reflection, text(s), text(t), text(u)));
     print_verdicts(a, r, v);
     tail(v, 2)
 }
@@ -88,9 +87,9 @@ fn position_of(owner: Owner) -> usize {
 }
 
 // A package at the front and its owner; what stands behind them.
-fn owner<'a>(set: &[u8], c: Configuration, s: &'a [u8]) -> &'a [u8] {
+fn owner<'a>(set: &[u8], words: &[u64], s: &'a [u8]) -> &'a [u8] {
     let t = behind(s);
-    let i = position_of(find_module_for_package(set, c, text(s)));
+    let i = position_of(find_module_for_package(set, words, text(s)));
     say(b" owner");
     if i == 65535 {
         say(b" none");
@@ -108,44 +107,50 @@ fn expect_graph(g: GraphAnswer, s: &[u8], what: &[u8]) {
         GraphOutcome::Answered => {
             let words = g.row;
             number(count(Row { words }));
-            expect(is_row(Row { words }, row(s)), what);
-            expect(is_flag(g.unnamed, byte(s, 32)), what);
+            let stored = row(s);
+            let wanted = stored.words;
+            expect(is_same(&words, &wanted), what);
+            expect(is_flag(g.unnamed, byte(s, 64)), what);
         }
         GraphOutcome::Refused(_) => expect(false, what),
     }
 }
 
 // A name at the front, its readers and what it reaches; what stands behind them.
-fn graph<'a>(set: &[u8], c: Configuration, s: &'a [u8]) -> &'a [u8] {
+fn graph<'a>(set: &[u8], words: &[u64], s: &'a [u8]) -> &'a [u8] {
     let t = behind(s);
     say(b" readers");
-    expect_graph(readers_of(set, c, text(s)), t, b"readers");
+    expect_graph(readers_of(set, words, text(s)), t, b"readers");
     say(b" reaches");
-    expect_graph(transitive_reads(set, c, text(s)), tail(t, 33), b"reaches");
-    tail(t, 66)
+    expect_graph(
+        transitive_reads(set, words, text(s)),
+        tail(t, 65),
+        b"reaches",
+    );
+    tail(t, 130)
 }
 
 // The entry at the front; what stands behind it.
-fn entry<'a>(set: &[u8], request: &[u8], c: Configuration, s: &'a [u8]) -> &'a [u8] {
+fn entry<'a>(set: &[u8], request: &[u8], words: &[u64], s: &'a [u8]) -> &'a [u8] {
     let t = tail(s, 1);
     if byte(s, 0) == 0 {
-        return question(set, request, c, t);
+        return question(set, request, words, t);
     }
     if byte(s, 0) == 1 {
-        return owner(set, c, t);
+        return owner(set, words, t);
     }
-    graph(set, c, t)
+    graph(set, words, t)
 }
 
 // All entries, at most 256.
-pub fn ask(set: &[u8], request: &[u8], c: Configuration, entries: &[u8]) {
+pub fn ask(set: &[u8], request: &[u8], words: &[u64], entries: &[u8]) {
     let mut rest = entries;
     let mut i: usize = 0;
     while i < 256 {
         if rest.len() == 0 {
             return;
         }
-        let next = entry(set, request, c, rest);
+        let next = entry(set, request, words, rest);
         rest = next;
         i += 1;
     }

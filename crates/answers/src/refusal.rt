@@ -14,7 +14,6 @@ use records::error::Input;
 use records::error::ModuleError;
 use records::request::check;
 use records::set::SetAnswer;
-use resolution::configuration::nothing;
 
 // A refusal: its number, the input that it points into, and its particulars.
 pub struct Refusal {
@@ -122,6 +121,18 @@ pub fn expect_refusal(r: Refusal, stored: usize, s: &[u8]) {
     expect(r.second == be16(s, 9), b"second module");
 }
 
+// The stored refusal where that is 1 to 3, else 4 with the words needed.
+pub fn expect_needed(r: Refusal, stored: usize, s: &[u8]) {
+    if 0 < stored {
+        if stored < 4 {
+            expect_refusal(r, stored, s);
+            return;
+        }
+    }
+    expect(r.number == 4, b"number with too few words");
+    expect(r.at == 4616, b"words needed");
+}
+
 // The check ends with a refusal 1 to 3, and takes what is refused later.
 pub fn expect_check(set: &[u8], request: &[u8], stored: usize, s: &[u8]) {
     let checked = check(set, request);
@@ -134,7 +145,8 @@ pub fn expect_check(set: &[u8], request: &[u8], stored: usize, s: &[u8]) {
 
 // So does a question, also of a module about itself.
 pub fn expect_question(set: &[u8], request: &[u8], stored: usize, s: &[u8]) {
-    match check_access(set, request, nothing(), AccessKind::Access, b"a", b"a", b"") {
+    let words = [0u64; 4616];
+    match check_access(set, request, &words, AccessKind::Access, b"a", b"a", b"") {
         AccessAnswer::Verdict(_) => expect(3 < stored, b"question"),
         AccessAnswer::Refused(e) => expect_refusal(refusal_of(e), stored, s),
     }

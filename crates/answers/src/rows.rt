@@ -1,68 +1,56 @@
-// Configurations: the stored rows as one, and a configuration held to them.
-use crate::form::is_flag;
-use crate::form::is_row;
-use crate::form::row;
+// Configurations: the stored members and rows as words.
+ghost use Prim.Native.Nat.{_≤_, _<_};
+ghost use lib.ListN.{length};
+use crate::form::word;
 use records::bytes::byte;
 use records::bytes::tail;
-use resolution::configuration::Configuration;
-use resolution::configuration::add_row;
-use resolution::configuration::add_unnamed;
-use resolution::configuration::nothing;
-use resolution::configuration::row_of;
-use resolution::row::Row;
-use resolution::row::has;
 
-// Position i has the row at the front.
-fn is_row_at(c: Configuration, i: usize, s: &[u8]) -> bool {
-    if !is_row(row_of(c, i), row(s)) {
-        return false;
+// The words at the front, as many as are lent.
+fn put(words: &mut [u64], s: &[u8]) {
+    let mut rest = s;
+    let mut k: usize = 0;
+    while k < words.len() {
+        words[k] = word(rest);
+        let next = tail(rest, 8);
+        rest = next;
+        k += 1;
     }
-    let words = c.unnamed;
-    is_flag(has(Row { words }, i), byte(s, 32))
 }
 
-// All 256 positions have these rows, those without a row none.
-pub fn has_rows(c: Configuration, rows: &[u8]) -> bool {
-    let mut rest = rows;
+// Position i gets the row at the front.
+fn put_row(words: &mut [u64], i: usize, s: &[u8])
+    requires { ⌜ 4616 ≤ length (now words) ⌝ }
+    requires { ⌜ i < 512 ⌝ }
+{
+    let at = 8 + 9 * i;
+    let end = at + 8;
+    put(&mut words[at..end], s);
+    words[end] = byte(s, 64) as u64;
+}
+
+// The members at the front, and a row for each of 512 positions; those without a stored row have an empty one.
+pub fn put_rows(words: &mut [u64], s: &[u8])
+    requires { ⌜ 4616 ≤ length (now words) ⌝ }
+{
+    put(&mut words[0..8], s);
+    let mut rest = tail(s, 64);
     let mut i: usize = 0;
-    while i < 256 {
-        if !is_row_at(c, i, rest) {
+    while i < 512 {
+        put_row(words, i, rest);
+        let next = tail(rest, 65);
+        rest = next;
+        i += 1;
+    }
+}
+
+// Each word is 7.
+pub fn is_filled(words: &[u64]) -> bool {
+    let mut k: usize = 0;
+    while k < words.len() {
+        if words[k] != 7 {
             return false;
         }
-        let next = tail(rest, 33);
-        rest = next;
-        i += 1;
+        k += 1;
     }
     true
-}
-
-// The configuration with the row at the front for position i.
-fn with_row(c: Configuration, i: usize, s: &[u8]) -> Configuration {
-    let next = add_row(c, i, row(s));
-    if byte(s, 32) == 1 {
-        return add_unnamed(next, i);
-    }
-    next
-}
-
-// The configuration with these rows.
-fn with_rows(c: Configuration, rows: &[u8]) -> Configuration {
-    let mut out = c;
-    let mut rest = rows;
-    let mut i: usize = 0;
-    while i < 256 {
-        out = with_row(out, i, rest);
-        let next = tail(rest, 33);
-        rest = next;
-        i += 1;
-    }
-    out
-}
-
-pub fn configuration(s: &[u8]) -> Configuration {
-    let first = row(s);
-    let members = first.words;
-    let mut c = nothing();
-    c.members = members;
-    with_rows(c, tail(s, 32))
 }

@@ -7,7 +7,6 @@ use access::access::check_access;
 use libc::STDERR_FILENO;
 use libc::STDOUT_FILENO;
 use messages::tell_absent;
-use resolution::configuration::Configuration;
 use resolution::resolve::Outcome;
 
 fn say(text: &[u8]) {
@@ -37,22 +36,30 @@ fn verdict(text: &[u8], answer: AccessAnswer) {
 }
 
 // Both questions, with the configuration that the set and the request resolve to.
-fn ask(set: &[u8], request: &[u8], c: Configuration, asker: &[u8], target: &[u8], pkg: &[u8]) {
+fn ask(set: &[u8], request: &[u8], words: &[u64], asker: &[u8], target: &[u8], pkg: &[u8]) {
     verdict(
         b"access ",
-        check_access(set, request, c, AccessKind::Access, asker, target, pkg),
+        check_access(set, request, words, AccessKind::Access, asker, target, pkg),
     );
     verdict(
         b"reflection ",
-        check_access(set, request, c, AccessKind::Reflection, asker, target, pkg),
+        check_access(
+            set,
+            request,
+            words,
+            AccessKind::Reflection,
+            asker,
+            target,
+            pkg,
+        ),
     );
 }
 
 fn answer<'a>(set: &'a [u8], request: &'a [u8], asker: &[u8], target: &[u8], pkg: &[u8]) {
-    let r = resolution::resolve::resolve(set, request);
-    let outcome = r.outcome;
+    let mut words = [0u64; 4616];
+    let outcome = resolution::resolve::resolve(set, request, &mut words);
     match outcome {
-        Outcome::Accepted => ask(set, request, r.configuration, asker, target, pkg),
+        Outcome::Accepted => ask(set, request, &words, asker, target, pkg),
         Outcome::Refused(e) => refused(e.number()),
     }
     tell_absent(set, request, outcome);

@@ -1,22 +1,19 @@
 -- The replies of the host's functions: what each answer of the library is told as.
 use Prim.Native.Nat.{ℕ}
 use mathlib.Core.Path.{_≡_}
-use mathlib.Core.List.{List, [], _∷_, _++_}
-use mathlib.Core.Bool.{Bool, true, false, cond}
-use lib.ListN.{length, drop}
-use lib.Dec.{ltb}
+use mathlib.Core.List.{List, [], _∷_}
+use mathlib.Core.Bool.{Bool, cond}
 use Rattle.records.specs.declared.jar.Written.{Written}
 use Rattle.records.specs.declared.jar.Written.the-variants as Written
 use Rattle.records.specs.declared.set.SetAnswer.{SetAnswer}
 use Rattle.records.specs.declared.set.SetAnswer.the-variants as Set
+use Rattle.resolution.specs.Configuration.{memberWords}
+use Rattle.resolution.specs.Resolve.{ResolveResult}
 use Rattle.resolution.specs.Row.{size}
-use Rattle.resolution.specs.declared.configuration.Configuration.{Configuration}
 use Rattle.resolution.specs.declared.owner.Owner.{Owner}
 use Rattle.resolution.specs.declared.owner.Owner.the-variants as Owner
 use Rattle.resolution.specs.declared.resolve.Outcome.{Outcome}
 use Rattle.resolution.specs.declared.resolve.Outcome.the-variants as Outcome
-use Rattle.resolution.specs.declared.resolve.Resolution.{Resolution}
-use Rattle.access.specs.ReadGraph.{TransitiveReads}
 use Rattle.access.specs.declared.access.AccessAnswer.{AccessAnswer}
 use Rattle.access.specs.declared.access.AccessAnswer.the-variants as Access
 use Rattle.access.specs.declared.access.AccessCheckResult.{AccessCheckResult}
@@ -26,20 +23,7 @@ use Rattle.access.specs.declared.access.ReadAnswer.the-variants as Read
 use Rattle.access.specs.declared.graph.GraphOutcome.{GraphOutcome}
 use Rattle.access.specs.declared.graph.GraphOutcome.the-variants as Graph
 use Rattle.access.specs.declared.graph.GraphAnswer.{GraphAnswer}
-use Rattle.host.specs.Reply.{Reply, answered, refused, tooFew, Told}
-use Rattle.host.specs.Words.{wordsOf, configurationOf}
-
-abbrev pub pickReply : Bool → Reply → Reply → Reply
-pickReply true a b = a
-pickReply false a b = b
-
-abbrev pub pickWords : Bool → List ℕ → List ℕ → List ℕ
-pickWords true a b = a
-pickWords false a b = b
-
--- lent words of a configuration: fewer than 1,032 are number 4
-unfoldable pub overWords : List ℕ → Reply → Reply
-overWords ws reply = pickReply (ltb (length ws) 1032) (tooFew 1032) reply
+use Rattle.host.specs.Reply.{Reply, answered, refused, Told}
 
 -- ---- check: the number of modules
 
@@ -47,20 +31,16 @@ unfoldable pub setReply : SetAnswer → Reply
 setReply (Set.Modules n) = answered (n ∷ [])
 setReply (Set.Refused e) = refused e
 
--- ---- resolve: the number of resolved modules. Lent words that are too few come last, as with the readers
+-- ---- resolve: the number of resolved modules, which is the number of ones in the member words
 
-unfoldable pub outcomeReply : ℕ → Configuration → Outcome → Reply
-outcomeReply room c Outcome.Accepted = pickReply (ltb room 1032) (tooFew 1032) (answered (size (c .members) ∷ []))
-outcomeReply room c (Outcome.Refused e) = refused e
+unfoldable pub outcomeReply : List ℕ → Outcome → Reply
+outcomeReply ws Outcome.Accepted = answered (size (memberWords ws) ∷ [])
+outcomeReply ws (Outcome.Refused e) = refused e
 
--- the lent words then: the configuration and the words past it as they were, or all as it was
-unfoldable pub wordsAfter : List ℕ → Configuration → Outcome → List ℕ
-wordsAfter ws c Outcome.Accepted = pickWords (ltb (length ws) 1032) ws (wordsOf c ++ drop 1032 ws)
-wordsAfter ws c (Outcome.Refused e) = ws
-
-pub record Resolved (result : Resolution) (before after particulars : List ℕ) (r : ℕ) : Type 0 where
-  pub reply : Told (outcomeReply (length before) (result .configuration) (result .outcome)) particulars r
-  pub words : after ≡ wordsAfter before (result .configuration) (result .outcome)
+-- what is told of a result, and the lent words then
+pub record Resolved (result : ResolveResult) (after particulars : List ℕ) (r : ℕ) : Type 0 where
+  pub reply : Told (outcomeReply (result .words) (result .outcome)) particulars r
+  pub words : after ≡ result .words
 
 -- ---- questions
 
@@ -96,15 +76,10 @@ unfoldable pub rowAfter : List ℕ → List ℕ → GraphOutcome → List ℕ
 rowAfter before row Graph.Answered = row
 rowAfter before row (Graph.Refused e) = before
 
--- what is told of an answer g, over these words
-pub record RowTold (ws : List ℕ) (g : GraphAnswer) (before after particulars : List ℕ) (r : ℕ) : Type 0 where
-  pub reply : Told (overWords ws (graphReply (g .unnamed) (g .outcome))) particulars r
-  pub row : after ≡ pickWords (ltb (length ws) 1032) before (rowAfter before (g .row) (g .outcome))
-
--- the same of an answer that TransitiveReads says all of
-pub record RowLed (s ws x before after particulars : List ℕ) (r : ℕ) : Type 0 where
-  pub few : ltb (length ws) 1032 ≡ true → Told (tooFew 1032) particulars r × (after ≡ before)
-  pub led : ltb (length ws) 1032 ≡ false → (g : GraphAnswer) × TransitiveReads s (configurationOf ws) x g × RowTold ws g before after particulars r
+-- what is told of an answer g
+pub record RowTold (g : GraphAnswer) (before after particulars : List ℕ) (r : ℕ) : Type 0 where
+  pub reply : Told (graphReply (g .unnamed) (g .outcome)) particulars r
+  pub row : after ≡ rowAfter before (g .row) (g .outcome)
 
 -- ---- readers: the bytes written
 

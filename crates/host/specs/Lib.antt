@@ -2,4 +2,3 @@
 pub mod Host
 pub mod Reader
 pub mod Reply
-pub mod Words

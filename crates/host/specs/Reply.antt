@@ -23,10 +23,6 @@ answered l = record { number = 0; words = four l }
 unfoldable pub refused : ModuleError → Reply
 refused e = record { number = numberOf e; words = four (particularsOf e) }
 
--- lent words that are too few: number 4 and how many are needed
-unfoldable pub tooFew : ℕ → Reply
-tooFew n = record { number = 4; words = four (n ∷ []) }
-
 -- r and the words at exit are the reply
 pub record Told (reply : Reply) (after : List ℕ) (r : ℕ) : Type 0 where
   pub number : r ≡ reply .number

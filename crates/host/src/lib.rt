@@ -5,4 +5,3 @@ pub mod question;
 pub mod reader;
 mod reply;
 pub mod resolve;
-mod words;

@@ -3,14 +3,11 @@ ghost use mathlib.Core.Path.{_≡_};
 ghost use Rattle.resolution.specs.PackageOwner.{findModuleForPackage};
 ghost use Rattle.access.specs.Access.{isReflection, checkAccess};
 ghost use Rattle.access.specs.CanRead.{canRead};
-ghost use Rattle.host.specs.Host.{overWords, verdictNumber, accessReply, readReply, ownerReply};
+ghost use Rattle.host.specs.Host.{verdictNumber, accessReply, readReply, ownerReply};
 ghost use Rattle.host.specs.Reply.{Told};
-ghost use Rattle.host.specs.Words.{configurationOf};
 use crate::reply::answer;
 use crate::reply::answer_two;
 use crate::reply::refuse;
-use crate::reply::too_few;
-use crate::words::configuration;
 use access::access::AccessAnswer;
 use access::access::AccessCheckResult;
 use access::access::AccessKind;
@@ -64,15 +61,11 @@ pub extern "C" fn saqhovune_check_access(
     pkg: &[u8],
     particulars: &mut [u64; 4],
 ) -> u64
-    ensures { λ r. ⌜ Told (overWords (now (words .entry)) (accessReply (checkAccess reflection (now (set .entry)) (now (request .entry)) (configurationOf (now (words .entry))) (now (asker .entry)) (now (target .entry)) (now (pkg .entry))))) (now (particulars .exit)) r ⌝ }
+    ensures { λ r. ⌜ Told (accessReply (checkAccess reflection (now (set .entry)) (now (request .entry)) (now (words .entry)) (now (asker .entry)) (now (target .entry)) (now (pkg .entry)))) (now (particulars .exit)) r ⌝ }
 {
-    if words.len() < 1032 {
-        return too_few(particulars, 1032);
-    }
-    let c = configuration(words);
     let kind = kind_of(reflection);
     tell_access(
-        check_access(set, request, c, kind, asker, target, pkg),
+        check_access(set, request, words, kind, asker, target, pkg),
         particulars,
     )
 }
@@ -100,13 +93,9 @@ pub extern "C" fn saqhovune_can_read(
     to: &[u8],
     particulars: &mut [u64; 4],
 ) -> u64
-    ensures { λ r. ⌜ Told (overWords (now (words .entry)) (readReply (canRead (now (set .entry)) (configurationOf (now (words .entry))) (now (from .entry)) (now (to .entry))))) (now (particulars .exit)) r ⌝ }
+    ensures { λ r. ⌜ Told (readReply (canRead (now (set .entry)) (now (words .entry)) (now (from .entry)) (now (to .entry)))) (now (particulars .exit)) r ⌝ }
 {
-    if words.len() < 1032 {
-        return too_few(particulars, 1032);
-    }
-    let c = configuration(words);
-    tell_read(can_read(set, c, from, to), particulars)
+    tell_read(can_read(set, words, from, to), particulars)
 }
 
 fn tell_owner(a: Owner, particulars: &mut [u64; 4]) -> u64
@@ -127,11 +116,7 @@ pub extern "C" fn saqhovune_find_module_for_package(
     pkg: &[u8],
     particulars: &mut [u64; 4],
 ) -> u64
-    ensures { λ r. ⌜ Told (overWords (now (words .entry)) (ownerReply (findModuleForPackage (now (set .entry)) (configurationOf (now (words .entry))) (now (pkg .entry))))) (now (particulars .exit)) r ⌝ }
+    ensures { λ r. ⌜ Told (ownerReply (findModuleForPackage (now (set .entry)) (now (words .entry)) (now (pkg .entry)))) (now (particulars .exit)) r ⌝ }
 {
-    if words.len() < 1032 {
-        return too_few(particulars, 1032);
-    }
-    let c = configuration(words);
-    tell_owner(find_module_for_package(set, c, pkg), particulars)
+    tell_owner(find_module_for_package(set, words, pkg), particulars)
 }

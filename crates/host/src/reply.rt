@@ -3,7 +3,7 @@ ghost use mathlib.Core.Path.{_≡_};
 ghost use mathlib.Core.List.{[], _∷_};
 ghost use Rattle.records.specs.Error.{inputNumber, particularsOf};
 ghost use Rattle.host.specs.Host.{writtenReply};
-ghost use Rattle.host.specs.Reply.{four, answered, refused, tooFew, Told};
+ghost use Rattle.host.specs.Reply.{four, answered, refused, Told};
 use records::error::Input;
 use records::error::ModuleError;
 use records::jar::Written;
@@ -66,14 +66,6 @@ pub fn refuse(particulars: &mut [u64; 4], e: ModuleError) -> u64
 {
     put_refusal(particulars, e);
     e.number() as u64
-}
-
-// Lent words that are fewer than n.
-pub fn too_few(particulars: &mut [u64; 4], n: usize) -> u64
-    ensures { λ r. ⌜ Told (tooFew n) (now (particulars .exit)) r ⌝ }
-{
-    put(particulars, n, 0, 0, 0);
-    4
 }
 
 // What a reader answers.

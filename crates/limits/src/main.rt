@@ -101,8 +101,8 @@ fn jar(file: &[u8], packages: &[u8]) {
 
 fn modules() {
     set(b"set-listing");
-    set(b"set-256-modules");
-    set(b"set-257-modules");
+    set(b"set-512-modules");
+    set(b"set-513-modules");
     set(b"set-65535-bytes");
     set(b"set-65536-bytes");
 }
@@ -112,8 +112,8 @@ fn places() {
     set(b"set-9-places");
     set(b"set-8-places-module-first");
     set(b"set-9-places-module-first");
-    set(b"set-256-with-hidden");
-    set(b"set-257-with-hidden");
+    set(b"set-512-with-hidden");
+    set(b"set-513-with-hidden");
     set(b"set-place-body");
     set(b"set-place-requires");
     set(b"set-repeated-in-place");

@@ -25,7 +25,7 @@ numberOf (DescriptorParseError at) = 8
 numberOf InvalidAutomaticModuleName = 9
 numberOf InvalidModuleName = 10
 
--- what is returned with it. 1: which of the three, offset of the mark. 2 and 3: offset of the record. 4: bytes needed.
+-- what is returned with it. 1: which of the three, offset of the mark. 2 and 3: offset of the record. 4: bytes or words needed.
 -- 5: the slice that has the name, where its bytes start, and how many they are. 7: the same of the package in the set, then
 -- the positions of the owner and of the second module. 8: offset.
 unfoldable pub particularsOf : ModuleError → List ℕ

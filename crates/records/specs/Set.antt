@@ -19,6 +19,14 @@ use Rattle.records.specs.declared.set.SetAnswer.the-variants.{Modules, R
 use Rattle.records.specs.declared.set.Checked.{Checked}
 use Rattle.records.specs.declared.set.Seen.{Seen}
 
+-- how many modules a set has at most
+abbrev pub moduleLimit : ℕ
+moduleLimit = 512
+
+-- how many entries the table of its modules has: one for each, and one for the end
+abbrev pub startsLength : ℕ
+startsLength = 513
+
 -- ---- the check of a set: its length, then its records front to back, at each 1, 2, 3
 
 -- the records so far: the offsets of the MO among them, and of those in the present place; how many places there are, the first
@@ -72,10 +80,10 @@ abbrev pub pickVerdict : Bool → Verdict → Verdict → Verdict
 pickVerdict true a b = a
 pickVerdict false a b = b
 
--- an MO at `at`: at most 256 modules (2); no name seen before in the same place, and none ALL-UNNAMED (3)
+-- an MO at `at`: at most 512 modules (2); no name seen before in the same place, and none ALL-UNNAMED (3)
 unfoldable pub admitAt : List ℕ → Passed → ℕ → List ℕ → Verdict
 admitAt s p at b =
-    pickVerdict (leb 256 (length (p .starts))) (Stop (TooLarge at))
+    pickVerdict (leb moduleLimit (length (p .starts))) (Stop (TooLarge at))
     (pickVerdict (sameBytes (moduleName b) allUnnamed || memName (moduleName b) (map (nameAt s) (p .here))) (Stop (Repeated at))
     Start)
 
@@ -113,10 +121,10 @@ judgeAt s p at k b =
 
 -- the table of a set's modules: where each starts, then the set's length, then zeros
 unfoldable pub tableOf : List ℕ → ℕ → List ℕ
-tableOf starts n = starts ++ (n ∷ replicate (256 - length starts) 0)
+tableOf starts n = starts ++ (n ∷ replicate (moduleLimit - length starts) 0)
 
 unfoldable pub refused : ModuleError → Checked
-refused e = record { answer = Refused e; starts = replicate 257 0 }
+refused e = record { answer = Refused e; starts = replicate startsLength 0 }
 
 unfoldable pub accepted : List ℕ → ℕ → Checked
 accepted starts n = record { answer = Modules (length starts); starts = tableOf starts n }

@@ -9,7 +9,7 @@ use lib.Dec.{ltb, eqb}
 use Rattle.records.specs.Bytes.{sameBytes, beforeBytes}
 use Rattle.records.specs.Name.{memName}
 use Rattle.records.specs.Order.{isOrdered, shifted}
-use Rattle.records.specs.Set.{nameAt}
+use Rattle.records.specs.Set.{nameAt, moduleLimit}
 use Rattle.records.specs.Finder.{isFirst}
 use Rattle.records.specs.Keys.{standing, Keys}
 use Rattle.records.specs.declared.finder.Found.{Found}
@@ -61,9 +61,9 @@ unfoldable pub foundIn : List ℕ → Place → Found
 foundIn table (There m) = At (getD table m 0)
 foundIn table (Free k) = Nothing
 
--- the position of the name n, where at most nine names are compared with it, first that of entry m
-unfoldable pub searchNine : List (List ℕ) → List ℕ → ℕ → List ℕ → Found
-searchNine names table m n = foundIn table (searchAt 9 names table n 0 m (length table))
+-- the position of the name n, where at most ten names are compared with it, first that of entry m
+unfoldable pub searchTen : List (List ℕ) → List ℕ → ℕ → List ℕ → Found
+searchTen names table m n = foundIn table (searchAt 10 names table n 0 m (length table))
 
 -- ---- the table
 
@@ -104,25 +104,41 @@ pub record Placing (names : List (List ℕ)) (table name : List ℕ) (r : Place)
   pub there : (m : ℕ) → r ≡ There m → Held names table name m
   pub free : (k : ℕ) → r ≡ Free k → Gap names table name k
 
--- ---- the index: three numbers for each position, of its name the first eight bytes, the next eight and the length; how many
+-- ---- the index: three numbers for each of 512 positions, of its name the first eight bytes, the next eight and the length; how many
 -- entries the table has; the entry that is compared first; and the table
 
+-- where the index tells how many entries the table has
+abbrev pub entriesSlot : ℕ
+entriesSlot = 1536
+
+-- where it tells which of them is compared first
+abbrev pub firstSlot : ℕ
+firstSlot = 1537
+
+-- where the table begins
+abbrev pub tableSlot : ℕ
+tableSlot = 1538
+
+-- how many entries the index has
+abbrev pub indexLength : ℕ
+indexLength = 2050
+
 unfoldable pub entriesIn : List ℕ → ℕ
-entriesIn index = getD index 768 0
+entriesIn index = getD index entriesSlot 0
 
 unfoldable pub tableIn : List ℕ → List ℕ
 unfolding entriesIn
-tableIn index = take (entriesIn index) (drop 770 index)
+tableIn index = take (entriesIn index) (drop tableSlot index)
 
 -- the three numbers of position p
 unfoldable pub KeysAt : List (List ℕ) → List ℕ → ℕ → Type 0
 KeysAt names index p = Keys (nameOfPosition names p) (getD index (3 * p) 0) (getD index (3 * p + 1) 0) (getD index (3 * p + 2) 0)
 
 pub record Indexed (names : List (List ℕ)) (index : List ℕ) : Type 0 where
-  pub long : length index ≡ 1026
-  pub most : length names ≤ 256
+  pub long : length index ≡ indexLength
+  pub most : length names ≤ moduleLimit
   pub few : entriesIn index ≤ length names
-  pub first : getD index 769 0 ≤ entriesIn index - 1
+  pub first : getD index firstSlot 0 ≤ entriesIn index - 1
   pub sorted : Sorted names (tableIn index)
   pub keys : (p : ℕ) → hasPosition p (tableIn index) ≡ true → KeysAt names index p
 
@@ -135,7 +151,7 @@ pub record Below (names : List (List ℕ)) (table name : List ℕ) (h : ℕ) : T
 -- the index with position i at entry `at` and the three numbers of its name
 unfoldable pub putAt : List ℕ → ℕ → ℕ → ℕ → ℕ → ℕ → List ℕ
 putAt index at i k j len =
-    set (set (set (set (set (set (shifted index (770 + at) (770 + entriesIn index)) (770 + at) i) 768 (entriesIn index + 1)) 769 at) (3 * i) k) (3 * i + 1) j) (3 * i + 2) len
+    set (set (set (set (set (set (shifted index (tableSlot + at) (tableSlot + entriesIn index)) (tableSlot + at) i) entriesSlot (entriesIn index + 1)) firstSlot at) (3 * i) k) (3 * i + 1) j) (3 * i + 2) len
 
 -- one name more is in the index, and it was none of the names if r says so
 pub record Added (names : List (List ℕ)) (name index : List ℕ) (r : Bool) : Type 0 where

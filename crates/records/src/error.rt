@@ -13,11 +13,11 @@ pub enum Input {
 pub enum ModuleError {
     // A record that is not well-formed: of which input, and where.
     Malformed(Input, usize),
-    // Too long, or the 257th module or the PL of a ninth place, at this offset.
+    // Too long, or the 513th module or the PL of a ninth place, at this offset.
     TooLarge(usize),
     // An MO whose name was seen before in its place, or is ALL-UNNAMED.
     Repeated(usize),
-    // The bytes that the output needs.
+    // What the output needs: bytes, or the words of a configuration.
     OutputTooShort(usize),
     // A module that is not in the set: the input that names it, the name's start and its length.
     ModuleNotFound(Input, usize, usize),

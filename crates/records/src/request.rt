@@ -20,6 +20,7 @@ use crate::set::Checked;
 use crate::set::SetAnswer;
 use crate::set::check_set_with;
 use crate::set::refuse;
+use crate::sorted::INDEX_LENGTH;
 
 // Whether records are well-formed.
 pub enum RecordsAnswer {
@@ -139,7 +140,7 @@ pub fn check_with(set: &[u8], request: &[u8], index: &mut [usize]) -> Checked
 pub fn check(set: &[u8], request: &[u8]) -> Checked
     ensures { λ r. ⌜ r ≡ checkInputs (now (set .entry)) (now (request .entry)) ⌝ }
 {
-    let mut index = [0usize; 1026];
+    let mut index = [0usize; INDEX_LENGTH];
     check_with(set, request, &mut index)
 }
 

@@ -20,8 +20,15 @@ use crate::record::Kind;
 use crate::record::Step;
 use crate::record::is_body;
 use crate::record::set_kind;
+use crate::sorted::INDEX_LENGTH;
 use crate::sorted::add;
 use crate::sorted::look_first;
+
+// How many modules a set has at most.
+pub const MODULE_LIMIT: usize = 512;
+
+// How many entries the table of a set's modules has: one for each, and one for the end.
+pub const STARTS_LENGTH: usize = 513;
 
 // What one record of a set leads to.
 pub enum Verdict {
@@ -55,7 +62,7 @@ pub enum SetAnswer {
 // the set is refused.
 pub struct Checked {
     pub answer: SetAnswer,
-    pub starts: [usize; 257],
+    pub starts: [usize; STARTS_LENGTH],
 }
 
 fn is_placed(count: usize, main: bool, kind: Kind) -> bool
@@ -108,7 +115,7 @@ fn admit(
     ensures { λ r. ⌜ Kept (map (nameAt (now (set .entry))) (take (seen .count) (now (starts .entry)))) (moduleName (now (body .entry))) (now (index .entry)) (now (index .exit)) r ⌝ }
 {
     let count = seen.count;
-    if 256 <= count {
+    if MODULE_LIMIT <= count {
         return Verdict::Stop(ModuleError::TooLarge(at));
     }
     let name = name_of(tail(body, 3));
@@ -185,7 +192,7 @@ pub fn refuse(e: ModuleError) -> Checked
 {
     Checked {
         answer: SetAnswer::Refused(e),
-        starts: [0; 257],
+        starts: [0; STARTS_LENGTH],
     }
 }
 
@@ -200,7 +207,7 @@ pub fn check_set_with(set: &[u8], index: &mut [usize]) -> Checked
         return refuse(ModuleError::TooLarge(0));
     }
     let mut c = Cursor { at: 0 };
-    let mut starts = [0usize; 257];
+    let mut starts = [0usize; STARTS_LENGTH];
     let mut seen = Seen {
         count: 0,
         first: 0,
@@ -259,7 +266,7 @@ pub fn check_set_with(set: &[u8], index: &mut [usize]) -> Checked
 pub fn check_set(set: &[u8]) -> Checked
     ensures { λ r. ⌜ r ≡ checkSet (now (set .entry)) ⌝ }
 {
-    let mut index = [0usize; 1026];
+    let mut index = [0usize; INDEX_LENGTH];
     check_set_with(set, &mut index)
 }
 

@@ -1,16 +1,16 @@
 // Lookup of a module by its name: an index of a set's modules with the table of the visible ones in ascending byte order of their
 // names, which is searched by halves.
-// `index` has 1,026 entries. Entries 3 p, 3 p + 1 and 3 p + 2 tell the name of position p: its first eight bytes, the next eight,
-// and its length. Entry 768 is how many entries the table has, entry 769 the one of them that is compared first, and from 770 on
-// stands the table.
+// `index` has 2,050 entries. Entries 3 p, 3 p + 1 and 3 p + 2 tell the name of position p, below 512: its first eight bytes, the next
+// eight, and its length. Entry 1536 is how many entries the table has, entry 1537 the one of them that is compared first, and from
+// 1538 on stands the table.
 ghost use mathlib.Core.Path.{_≡_};
 ghost use mathlib.Core.List.{map};
 ghost use Prim.Native.Nat.{_+_, _-_, _*_, _≤_, _<_};
 ghost use lib.ListN.{length, getD, take};
-ghost use Rattle.records.specs.Set.{nameAt};
+ghost use Rattle.records.specs.Set.{nameAt, moduleLimit};
 ghost use Rattle.records.specs.Finder.{findName};
 ghost use Rattle.records.specs.Keys.{standing, Key, keyStanding, Alike};
-ghost use Rattle.records.specs.Sorted.{middleOf, nameOfPosition, searchAt, searchNine, Placing, Below, entriesIn, tableIn, putAt, Indexed, Added};
+ghost use Rattle.records.specs.Sorted.{middleOf, nameOfPosition, searchAt, searchTen, Placing, Below, entriesIn, tableIn, putAt, Indexed, Added, entriesSlot, firstSlot, tableSlot, indexLength};
 use crate::finder::Found;
 use crate::keys::Standing;
 use crate::keys::by_keys;
@@ -19,21 +19,33 @@ use crate::keys::next_key;
 use crate::keys::settle;
 use crate::order::shift;
 
+// Where the index tells how many entries the table has.
+const ENTRIES_SLOT: usize = 1536;
+
+// Where it tells which of them is compared first.
+const FIRST_SLOT: usize = 1537;
+
+// Where the table begins.
+const TABLE_SLOT: usize = 1538;
+
+// How many entries the index has.
+pub const INDEX_LENGTH: usize = 2050;
+
 // How many entries the table has.
 pub fn entries(index: &[usize]) -> usize
-    requires { ⌜ length (now index) ≡ 1026 ⌝ }
+    requires { ⌜ length (now index) ≡ indexLength ⌝ }
     ensures { λ r. ⌜ r ≡ entriesIn (now (index .entry)) ⌝ }
 {
-    index[768]
+    index[ENTRIES_SLOT]
 }
 
 // The position at entry m of the table.
 pub fn position(index: &[usize], m: usize) -> usize
-    requires { ⌜ length (now index) ≡ 1026 ⌝ }
-    requires { ⌜ m < 256 ⌝ }
-    ensures { λ r. ⌜ r ≡ getD (now (index .entry)) (770 + m) 0 ⌝ }
+    requires { ⌜ length (now index) ≡ indexLength ⌝ }
+    requires { ⌜ m < moduleLimit ⌝ }
+    ensures { λ r. ⌜ r ≡ getD (now (index .entry)) (tableSlot + m) 0 ⌝ }
 {
-    index[770 + m]
+    index[TABLE_SLOT + m]
 }
 
 // Where a name stands in a table, or where it belongs: before the entry with this number.
@@ -53,8 +65,8 @@ fn middle(low: usize, high: usize) -> usize
 
 // How the name of position i stands to a name with the keys k and j, as far as the keys tell.
 fn by_entry(index: &[usize], i: usize, k: usize, j: usize) -> Standing
-    requires { ⌜ length (now index) ≡ 1026 ⌝ }
-    requires { ⌜ i < 256 ⌝ }
+    requires { ⌜ length (now index) ≡ indexLength ⌝ }
+    requires { ⌜ i < moduleLimit ⌝ }
     ensures { λ r. ⌜ r ≡ keyStanding (getD (now (index .entry)) (3 * i) 0) (getD (now (index .entry)) (3 * i + 1) 0) k j ⌝ }
 {
     by_keys(index[3 * i], index[3 * i + 1], k, j)
@@ -62,8 +74,8 @@ fn by_entry(index: &[usize], i: usize, k: usize, j: usize) -> Standing
 
 // How it stands to a name with the same keys.
 fn settle_entry(set: &[u8], starts: &[usize], index: &[usize], i: usize, name: &[u8]) -> Standing
-    requires { ⌜ length (now index) ≡ 1026 ⌝ }
-    requires { ⌜ i < 256 ⌝ }
+    requires { ⌜ length (now index) ≡ indexLength ⌝ }
+    requires { ⌜ i < moduleLimit ⌝ }
     requires { ⌜ i < length (now starts) ⌝ }
     requires { ⌜ Alike (nameAt (now set) (getD (now starts) i 0)) (now name) ⌝ }
     requires { ⌜ getD (now index) (3 * i + 2) 0 ≡ length (nameAt (now set) (getD (now starts) i 0)) ⌝ }
@@ -90,7 +102,7 @@ fn compare_entry(
     requires { ⌜ Key (now name) 8 j ⌝ }
     ensures { λ r. ⌜ r ≡ standing (nameOfPosition (map (nameAt (now (set .entry))) (take count (now (starts .entry)))) (getD (tableIn (now (index .entry))) m 0)) (now (name .entry)) ⌝ }
 {
-    let i = index[770 + m];
+    let i = index[TABLE_SLOT + m];
     match by_entry(index, i, k, j) {
         Standing::Same => settle_entry(set, starts, index, i, name),
         Standing::Before => Standing::Before,
@@ -98,7 +110,7 @@ fn compare_entry(
     }
 }
 
-// Where the name stands in the table or belongs: a search by halves that compares nine names at most, that of entry `first` first.
+// Where the name stands in the table or belongs: a search by halves that compares ten names at most, that of entry `first` first.
 fn seek(
     set: &[u8],
     starts: &[usize],
@@ -110,20 +122,20 @@ fn seek(
     requires { ⌜ count ≤ length (now starts) ⌝ }
     requires { ⌜ Indexed (map (nameAt (now set)) (take count (now starts))) (now index) ⌝ }
     requires { ⌜ first ≤ entriesIn (now index) - 1 ⌝ }
-    ensures { λ r. ⌜ r ≡ searchAt 9 (map (nameAt (now (set .entry))) (take count (now (starts .entry)))) (tableIn (now (index .entry))) (now (name .entry)) 0 first (length (tableIn (now (index .entry)))) ⌝ }
+    ensures { λ r. ⌜ r ≡ searchAt 10 (map (nameAt (now (set .entry))) (take count (now (starts .entry)))) (tableIn (now (index .entry))) (now (name .entry)) 0 first (length (tableIn (now (index .entry)))) ⌝ }
 {
     let k = first_key(name);
     let j = next_key(name);
     let mut low: usize = 0;
-    let mut high = index[768];
+    let mut high = index[ENTRIES_SLOT];
     let mut m = first;
-    let mut left: usize = 9;
+    let mut left: usize = 10;
     while 0 < left {
         if high <= low {
             return Place::Free(low);
         }
         left -= 1;
-        let i = index[770 + m];
+        let i = index[TABLE_SLOT + m];
         match by_entry(index, i, k, j) {
             Standing::Same => {
                 match settle_entry(set, starts, index, i, name) {
@@ -155,14 +167,14 @@ fn seek(
 
 // The module of this name: the first of the first `count` modules of the table of starts that has it.
 pub fn find_in(set: &[u8], starts: &[usize], count: usize, index: &[usize], name: &[u8]) -> Found
-    requires { ⌜ count ≤ 256 ⌝ }
+    requires { ⌜ count ≤ moduleLimit ⌝ }
     requires { ⌜ count ≤ length (now starts) ⌝ }
     requires { ⌜ Indexed (map (nameAt (now set)) (take count (now starts))) (now index) ⌝ }
-    ensures { λ r. ⌜ r ≡ searchNine (map (nameAt (now (set .entry))) (take count (now (starts .entry)))) (tableIn (now (index .entry))) (getD (now (index .entry)) 769 0) (now (name .entry)) ⌝ }
+    ensures { λ r. ⌜ r ≡ searchTen (map (nameAt (now (set .entry))) (take count (now (starts .entry)))) (tableIn (now (index .entry))) (getD (now (index .entry)) firstSlot 0) (now (name .entry)) ⌝ }
     ensures { λ r. ⌜ r ≡ findName (map (nameAt (now (set .entry))) (take count (now (starts .entry)))) (now (name .entry)) 0 ⌝ }
 {
-    match seek(set, starts, count, index, index[769], name) {
-        Place::There(m) => Found::At(index[770 + m]),
+    match seek(set, starts, count, index, index[FIRST_SLOT], name) {
+        Place::There(m) => Found::At(index[TABLE_SLOT + m]),
         Place::Free(_) => Found::Nothing,
     }
 }
@@ -186,7 +198,7 @@ fn place_from(
     requires { ⌜ Key (now name) 8 j ⌝ }
     ensures { λ r. ⌜ Placing (map (nameAt (now (set .entry))) (take count (now (starts .entry)))) (tableIn (now (index .entry))) (now (name .entry)) r ⌝ }
 {
-    let n = index[768];
+    let n = index[ENTRIES_SLOT];
     if h == n {
         return Place::Free(n);
     }
@@ -214,11 +226,11 @@ fn place_of(
     requires { ⌜ Key (now name) 8 j ⌝ }
     ensures { λ r. ⌜ Placing (map (nameAt (now (set .entry))) (take count (now (starts .entry)))) (tableIn (now (index .entry))) (now (name .entry)) r ⌝ }
 {
-    let n = index[768];
+    let n = index[ENTRIES_SLOT];
     if n == 0 {
         return Place::Free(0);
     }
-    let h = index[769];
+    let h = index[FIRST_SLOT];
     match compare_entry(set, starts, count, index, h, name, k, j) {
         Standing::Same => Place::There(h),
         Standing::Before => place_from(set, starts, count, index, h + 1, name, k, j),
@@ -228,17 +240,17 @@ fn place_of(
 
 // Puts position i at entry `at` of the table, with the numbers of its name.
 fn put(index: &mut [usize], at: usize, i: usize, k: usize, j: usize, len: usize)
-    requires { ⌜ length (now index) ≡ 1026 ⌝ }
+    requires { ⌜ length (now index) ≡ indexLength ⌝ }
     requires { ⌜ at ≤ entriesIn (now index) ⌝ }
-    requires { ⌜ entriesIn (now index) < 256 ⌝ }
-    requires { ⌜ i < 256 ⌝ }
+    requires { ⌜ entriesIn (now index) < moduleLimit ⌝ }
+    requires { ⌜ i < moduleLimit ⌝ }
     ensures { λ _. ⌜ now (index .exit) ≡ putAt (now (index .entry)) at i k j len ⌝ }
 {
-    let n = index[768];
-    shift(index, 770 + at, 770 + n);
-    index[770 + at] = i;
-    index[768] = n + 1;
-    index[769] = at;
+    let n = index[ENTRIES_SLOT];
+    shift(index, TABLE_SLOT + at, TABLE_SLOT + n);
+    index[TABLE_SLOT + at] = i;
+    index[ENTRIES_SLOT] = n + 1;
+    index[FIRST_SLOT] = at;
     index[3 * i] = k;
     index[3 * i + 1] = j;
     index[3 * i + 2] = len;
@@ -247,7 +259,7 @@ fn put(index: &mut [usize], at: usize, i: usize, k: usize, j: usize, len: usize)
 // Adds the next module, which has this name, to the index of those before it, unless its name is there. Where it answers true, no
 // module before it has the name.
 pub fn add(set: &[u8], starts: &[usize], count: usize, index: &mut [usize], name: &[u8]) -> bool
-    requires { ⌜ count < 256 ⌝ }
+    requires { ⌜ count < moduleLimit ⌝ }
     requires { ⌜ count ≤ length (now starts) ⌝ }
     requires { ⌜ Indexed (map (nameAt (now set)) (take count (now starts))) (now index) ⌝ }
     ensures { λ r. ⌜ Added (map (nameAt (now (set .entry))) (take count (now (starts .entry)))) (now (name .entry)) (now (index .exit)) r ⌝ }
@@ -270,9 +282,9 @@ pub fn look_first(set: &[u8], starts: &[usize], count: usize, index: &mut [usize
     ensures { λ _. ⌜ Indexed (map (nameAt (now (set .entry))) (take count (now (starts .entry)))) (now (index .exit)) ⌝ }
 {
     let name = b"java.base";
-    match seek(set, starts, count, index, index[768] / 2, name) {
+    match seek(set, starts, count, index, index[ENTRIES_SLOT] / 2, name) {
         Place::There(m) => {
-            index[769] = m;
+            index[FIRST_SLOT] = m;
         }
         Place::Free(_) => {}
     }

@@ -1,6 +1,6 @@
 -- Refusal 5: the bytes handed back are the absent name, and no module of the set has it.
 use mathlib.Core.Path.{_≡_, refl, sym, ap, _∙_, subst}
-use Prim.Native.Nat.{ℕ, zero, suc, _+_, _-_, _<_}
+use Prim.Native.Nat.{ℕ, zero, suc, _+_, _-_, _≤_, _<_}
 use native.Mathlib.Omega.{arith}
 use native.Mathlib.Nat.{add-zero}
 use mathlib.Core.Bool.{Bool, true, false}
@@ -28,6 +28,8 @@ use Rattle.resolution.specs.Positions.{moduleAt}
 use Rattle.resolution.specs.Resolution.{QueuedBy, Refusal, State, base, moduleNotFound, provider, required, root}
 use Rattle.resolution.specs.Resolution as Resolution
 use Rattle.resolution.specs.Resolve.{bodyStart, startIn, absentOf, errorOf, refused, told, answered, resolve, recordsAt}
+use Rattle.resolution.specs.Configuration.{wordCount}
+use Rattle.resolution.proofs.ConfigurationWords.{with-enough}
 use Rattle.resolution.specs.Absent.{partOf, absentIn, absentName}
 use Rattle.resolution.specs.declared.resolve.Outcome.the-variants.{Refused}
 use Rattle.resolution.proofs.Accepted.{trivial}
@@ -149,26 +151,26 @@ required-bytes s m t g et p j n l e =
     (body-part Kind.Requires j s b (getD t p 0) (getD t (p + 1) 0 - getD t p 0) at n 3 w))
 
 -- what is known of the name n of refusal 5, queued by the record at p
-pub record AbsentName (s q : List ℕ) (n : Name) (p : QueuedBy) : Type 0 where
+pub record AbsentName (s q ws : List ℕ) (n : Name) (p : QueuedBy) : Type 0 where
   -- the bytes handed back are the name
-  pub bytes : absentName s q (resolve s q .outcome) ≡ n
+  pub bytes : absentName s q (resolve s q ws .outcome) ≡ n
   -- it is the name in an RT of the request or in an RQ of the set, and no module of the set has it
   pub caused : AbsentBy (modules s) (requestOf q) Whatever n p
 
-outcome-is : (s q : List ℕ) (k : ℕ) (n : Name) (p : QueuedBy) → checkInputs s q .answer ≡ Modules k → Resolution.resolve (modules s) (requestOf q) ≡ failed (moduleNotFound n p)
-    → resolve s q .outcome ≡ Refused (absentOf s q (length n) p)
+outcome-is : (s q ws : List ℕ) (k : ℕ) (n : Name) (p : QueuedBy) → checkInputs s q .answer ≡ Modules k → wordCount ≤ length ws → Resolution.resolve (modules s) (requestOf q) ≡ failed (moduleNotFound n p)
+    → resolve s q ws .outcome ≡ Refused (absentOf s q (length n) p)
 unfolding resolve answered told refused errorOf
-outcome-is s q k n p h e =
-    ap (λ (a : SetAnswer). answered s q a .outcome) h ∙ ap (λ (r : Result State Refusal). told s q r .outcome) e
+outcome-is s q ws k n p h l e =
+    ap (λ (a : SetAnswer). answered s q ws a .outcome) (with-enough ws (checkInputs s q .answer) k h l) ∙ ap (λ (r : Result State Refusal). told s q ws r .outcome) e
 
-pub absent-name-is : (s q : List ℕ) (k : ℕ) (n : Name) (p : QueuedBy) → checkInputs s q .answer ≡ Modules k
-    → Resolution.resolve (modules s) (requestOf q) ≡ failed (moduleNotFound n p) → AbsentName s q n p
-absent-name-is s q k n p h e = turned p (refusal-caused (modules s) (requestOf q) Whatever (trivial (modules s) (requestOf q)) (moduleNotFound n p) e) (ap (absentName s q) (outcome-is s q k n p h e))
+pub absent-name-is : (s q ws : List ℕ) (k : ℕ) (n : Name) (p : QueuedBy) → checkInputs s q .answer ≡ Modules k → wordCount ≤ length ws
+    → Resolution.resolve (modules s) (requestOf q) ≡ failed (moduleNotFound n p) → AbsentName s q ws n p
+absent-name-is s q ws k n p h l e = turned p (refusal-caused (modules s) (requestOf q) Whatever (trivial (modules s) (requestOf q)) (moduleNotFound n p) e) (ap (absentName s q) (outcome-is s q ws k n p h l e))
   where
     c : checkSet s ≡ record { answer = Modules k; starts = checkInputs s q .starts }
     c = inputs-taken s q k (checkInputs s q) refl h
 
-    turned : (o : QueuedBy) → AbsentBy (modules s) (requestOf q) Whatever n o → absentName s q (resolve s q .outcome) ≡ absentName s q (Refused (absentOf s q (length n) o)) → AbsentName s q n o
+    turned : (o : QueuedBy) → AbsentBy (modules s) (requestOf q) Whatever n o → absentName s q (resolve s q ws .outcome) ≡ absentName s q (Refused (absentOf s q (length n) o)) → AbsentName s q ws n o
     turned base w z = absurd (w .stands)
     turned (provider i) w z = true≠false (w .stands) (w .absent)
     turned (root i) w z = record { bytes = z ∙ (unfold absentName absentIn partOf absentOf in root-bytes q i n (w .stands .1)); caused = w }

@@ -1,9 +1,10 @@
 -- Document 01's cases 1 to 5 and 10, of the definitions over bytes. What the bytes say is computed; what follows from it is
 -- proofs/Cases.
-use Prim.Native.Nat.{ℕ}
+use Prim.Native.Nat.{ℕ, _≤_}
 use mathlib.Core.Path.{_≡_, refl, ap, _∙_}
 use mathlib.Core.Option.{none, some}
 use mathlib.Core.List.{List, [], _∷_}
+use lib.ListN.{length}
 use Rattle.records.specs.Bytes.{sameBytes, u16At}
 use Rattle.records.specs.Name.{printable, nameOf, afterName, isField, isName, isEmpty, isNames, isList, isVersion, isNameVersion, isNameList, memName, javaBase, namesOf, listOf}
 use Rattle.records.specs.Record.{markOf, sizeOf, bodyOf, recordMore, whole, recordsFrom, records, markFor, setKind, requestKind, kindIn, isModule, isRequires, isBody, isOf, bodiesIn, bodies, nthIn}
@@ -22,7 +23,9 @@ use Rattle.resolution.specs.Resolution.{State, Refusal, root, moduleNotF
 use Rattle.resolution.specs.Resolution as Resolution
 use Rattle.resolution.specs.Resolve.{bodyStart, absentOf, errorOf, refused, told, answered, resolve}
 use Rattle.resolution.specs.declared.resolve.Outcome.the-variants.{Accepted}
-use Rattle.resolution.specs.declared.resolve.Resolution as Declared
+use Rattle.resolution.specs.Resolve as Resolve
+use Rattle.resolution.specs.Configuration.{wordCount}
+use Rattle.resolution.proofs.ConfigurationWords.{with-enough}
 use Rattle.resolution.proofs.Cases.{case1-modules, case1-reads, case1-owners, case2, case3, case4, case5, case10, case10-modules}
 use Rattle.resolution.specs.Cases.{membersOf, readsOf, ownersOf, moduleOf, requirement, request, a, b, javaLang, baseModule, cycle, pages, pageCore, pageFoot, pageFrames, reader, footPackage, framePackage, baseSet, listingSet, cycleSet, listingRequest, rootA, rootANothingPermitted}
 
@@ -69,25 +72,25 @@ abbrev resolved : List ℕ → List ℕ → Result State Refusal
 resolved s q = Resolution.resolve (modules s) (requestOf q)
 
 -- the set and the request are taken, and this is what their resolution gives
-accepts : (s q : List ℕ) (n : ℕ) (z : Result State Refusal) → checkInputs s q .answer ≡ Set.Modules n → resolved s q ≡ z → resolve s q ≡ told s q z
+accepts : (s q : List ℕ) (n : ℕ) (z : Result State Refusal) → checkInputs s q .answer ≡ Set.Modules n → resolved s q ≡ z → (ws : List ℕ) → wordCount ≤ length ws → resolve s q ws ≡ told s q ws z
 unfolding resolve answered
-accepts s q n z e h = ap (answered s q) e ∙ ap (told s q) h
+accepts s q n z e h ws l = ap (answered s q ws) (with-enough ws (checkInputs s q .answer) n e l) ∙ ap (told s q ws) h
 
 -- (1) the listing: accepted; its modules, their reads, the owners
 pub record Listing (s q : List ℕ) : Type 0 where
-  pub outcome : resolve s q .outcome ≡ Accepted
+  pub outcome : (ws : List ℕ) → wordCount ≤ length ws → resolve s q ws .outcome ≡ Accepted
   pub modules-are : membersOf (resolved s q) ≡ javaBase ∷ pageCore ∷ pageFoot ∷ pageFrames ∷ []
   pub reads-are : readsOf (requestOf q) (resolved s q)
       ≡ (javaBase, []) ∷ (pageCore, javaBase ∷ pageFrames ∷ []) ∷ (pageFoot, javaBase ∷ pageFrames ∷ []) ∷ (pageFrames, javaBase ∷ []) ∷ []
   pub owners-are : ownersOf (resolved s q) ≡ (javaLang, some javaBase) ∷ (footPackage, some pageFoot) ∷ (framePackage, some pageFrames) ∷ []
 
-outcome-of : (s q : List ℕ) (n : ℕ) (m : List Name) (x : Name) → checkInputs s q .answer ≡ Set.Modules n → membersOf (resolved s q) ≡ x ∷ m → resolve s q .outcome ≡ Accepted
+outcome-of : (s q : List ℕ) (n : ℕ) (m : List Name) (x : Name) → checkInputs s q .answer ≡ Set.Modules n → membersOf (resolved s q) ≡ x ∷ m → (ws : List ℕ) → wordCount ≤ length ws → resolve s q ws .outcome ≡ Accepted
 unfolding told membersOf
-outcome-of s q n m x e h = turned (resolved s q) refl h
+outcome-of s q n m x e h ws l = turned (resolved s q) refl h
   where
-    turned : (z : Result State Refusal) → resolved s q ≡ z → membersOf z ≡ x ∷ m → resolve s q .outcome ≡ Accepted
+    turned : (z : Result State Refusal) → resolved s q ≡ z → membersOf z ≡ x ∷ m → resolve s q ws .outcome ≡ Accepted
     turned (failed r) k j = clash (cc)
-    turned (done st) k j = ap (λ (u : Declared.Resolution). u .outcome) (accepts s q n (done st) e k)
+    turned (done st) k j = ap (λ (u : Resolve.ResolveResult). u .outcome) (accepts s q n (done st) e k ws l)
 
 listing-resolved : resolved listingSet listingRequest ≡ Resolution.resolve pages (request (pageCore ∷ []) none)
 listing-resolved = ap (λ (m : List Descriptor). Resolution.resolve m (requestOf listingRequest)) listing-modules ∙ ap (Resolution.resolve pages) listing-request
@@ -107,8 +110,8 @@ byte-case1 = record {
     members = ap membersOf listing-resolved ∙ case1-modules
 
 -- (2) the empty set: 6
-pub byte-case2 : resolve [] [] ≡ refused JavaBaseNotFound
-byte-case2 = accepts [] [] 0 (failed javaBaseNotFound) taken (ap (λ (m : List Descriptor). Resolution.resolve m (requestOf [])) none-there ∙ ap (Resolution.resolve []) empty-request ∙ case2) ∙ told-is
+pub byte-case2 : (ws : List ℕ) → wordCount ≤ length ws → resolve [] [] ws ≡ refused JavaBaseNotFound ws
+byte-case2 ws l = accepts [] [] 0 (failed javaBaseNotFound) taken (ap (λ (m : List Descriptor). Resolution.resolve m (requestOf [])) none-there ∙ ap (Resolution.resolve []) empty-request ∙ case2) ws l ∙ told-is
   where
     taken : checkInputs [] [] .answer ≡ Set.Modules 0
     taken = unfold check in refl
@@ -116,7 +119,7 @@ byte-case2 = accepts [] [] 0 (failed javaBaseNotFound) taken (ap (λ (m : List D
     none-there : modules [] ≡ []
     none-there = unfold decode in refl
 
-    told-is : told [] [] (failed javaBaseNotFound) ≡ refused JavaBaseNotFound
+    told-is : told [] [] ws (failed javaBaseNotFound) ≡ refused JavaBaseNotFound ws
     told-is = unfold told errorOf in refl
 
 -- java.base alone
@@ -124,7 +127,7 @@ base-resolved : (q : List ℕ) (rq : Request) → requestOf q ≡ rq → resolve
 base-resolved q rq e = ap (λ (m : List Descriptor). Resolution.resolve m (requestOf q)) base-modules ∙ ap (Resolution.resolve (baseModule ∷ [])) e
 
 pub record OneModule (s q : List ℕ) : Type 0 where
-  pub outcome : resolve s q .outcome ≡ Accepted
+  pub outcome : (ws : List ℕ) → wordCount ≤ length ws → resolve s q ws .outcome ≡ Accepted
   pub modules-are : membersOf (resolved s q) ≡ javaBase ∷ []
 
 -- (3) java.base alone, no root: one module
@@ -138,13 +141,13 @@ byte-case3 = record { outcome = outcome-of baseSet [] 1 [] javaBase taken member
     members = ap membersOf (base-resolved [] (request [] none) empty-request) ∙ case3
 
 -- (4) that, root absent a: 5, the one byte at 5 of the request
-pub byte-case4 : resolve baseSet rootA ≡ refused (ModuleNotFound Input.Request 5 1)
-byte-case4 = accepts baseSet rootA 1 (failed (moduleNotFound a (root 0))) taken (base-resolved rootA (request (a ∷ []) none) root-request ∙ case4) ∙ told-is
+pub byte-case4 : (ws : List ℕ) → wordCount ≤ length ws → resolve baseSet rootA ws ≡ refused (ModuleNotFound Input.Request 5 1) ws
+byte-case4 ws l = accepts baseSet rootA 1 (failed (moduleNotFound a (root 0))) taken (base-resolved rootA (request (a ∷ []) none) root-request ∙ case4) ws l ∙ told-is
   where
     taken : checkInputs baseSet rootA .answer ≡ Set.Modules 1
     taken = unfold check in refl
 
-    told-is : told baseSet rootA (failed (moduleNotFound a (root 0))) ≡ refused (ModuleNotFound Input.Request 5 1)
+    told-is : told baseSet rootA ws (failed (moduleNotFound a (root 0))) ≡ refused (ModuleNotFound Input.Request 5 1) ws
     told-is = unfold decode nthIn told errorOf absentOf bodyStart in refl
 
 -- (5) (4) with empty LM: accepted
@@ -159,7 +162,7 @@ byte-case5 = record { outcome = outcome-of baseSet rootANothingPermitted 1 [] ja
 
 -- (10) java.base, root a, a and b requiring each other transitively: both read themselves
 pub record Cycle (s q : List ℕ) : Type 0 where
-  pub outcome : resolve s q .outcome ≡ Accepted
+  pub outcome : (ws : List ℕ) → wordCount ≤ length ws → resolve s q ws .outcome ≡ Accepted
   pub reads-are : readsOf (requestOf q) (resolved s q) ≡ (a, a ∷ b ∷ javaBase ∷ []) ∷ (b, a ∷ b ∷ javaBase ∷ []) ∷ (javaBase, []) ∷ []
 
 cycle-resolved : resolved cycleSet rootA ≡ Resolution.resolve cycle (request (a ∷ []) none)

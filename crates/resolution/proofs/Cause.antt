@@ -6,7 +6,9 @@ use mathlib.Core.Bool.{Bool, true, false, cond}
 use mathlib.Core.Option.{some}
 use mathlib.Core.List.{List, [], _∷_, map, List·Memᴰ·head, List·Memᴰ·tail}
 use mathlib.Core.Logic.{⊎-elim, _⊎_}
+use lib.Dec.{ltb}
 use lib.ListN.{length, getD, take, drop}
+use borrow.Author.Tests.{ltb-true}
 use Rattle.records.specs.Bytes.{sameBytes}
 use Rattle.records.specs.Name.{memName, nameOf}
 use Rattle.records.specs.Record.{records, bodies, bodiesIn, bodyOf, isOf, nthIn, firstIn, begins}
@@ -14,6 +16,7 @@ use Rattle.records.specs.Descriptor.{Descriptor, descriptorOf, requirementOf}
 use Rattle.records.specs.Request.{Request, requestOf, isPermitted, checkInputs}
 use Rattle.records.specs.Set.{blockAt, modules, checkSet}
 use Rattle.records.specs.declared.error.Input.the-variants as Input
+use Rattle.records.specs.declared.error.ModuleError.the-variants.{OutputTooShort}
 use Rattle.records.specs.declared.error.ModuleError.{ModuleError}
 use Rattle.records.specs.declared.record.Next.{Next}
 use Rattle.records.specs.declared.record.Kind.{Kind}
@@ -29,12 +32,13 @@ use Rattle.records.proofs.set.Blocks.{GoodSet, good-set}
 use Rattle.resolution.specs.Lists.{Name, Mem}
 use Rattle.resolution.specs.Loop.{Result, failed, done}
 use Rattle.resolution.specs.Absent.{partOf}
-use Rattle.resolution.specs.Cause.{Taken, Reached, from-root, from-requirement, AbsentModule, SharedPackage, Cause, is-checked, is-absent, no-base, is-shared}
+use Rattle.resolution.specs.Cause.{Taken, Reached, from-root, from-requirement, AbsentModule, SharedPackage, Cause, is-checked, is-short, is-absent, no-base, is-shared}
 use Rattle.resolution.specs.Closed.{Closed}
 use Rattle.resolution.specs.Positions.{moduleAt}
 use Rattle.resolution.specs.Resolution.{Refusal, State, QueuedBy, base, root, required, provider, find, indexOf, moduleNotFound, javaBaseNotFound, splitPackage, ranOut, hasModule}
 use Rattle.resolution.specs.Resolution as Resolution
 use Rattle.resolution.specs.Resolve.{bodyStart, startIn, recordsAt, absentOf, splitOf, errorOf, refused, told, answered, resolve}
+use Rattle.resolution.specs.Configuration.{wordCount, pickAnswer, withWords}
 use Rattle.resolution.specs.declared.resolve.Outcome.the-variants.{Refused}
 use Rattle.resolution.proofs.Absence.{Prefix, prefix-bytes, body-part, name-prefix, root-bytes, required-bytes}
 use Rattle.resolution.proofs.Find.{find-mem, has-find}
@@ -137,11 +141,11 @@ module _ (s q : List ℕ) (k : ℕ) (h : checkInputs s q .answer ≡ Set.Modules
   abbrev Always : ((Name → Type 0) → Type 0) → Type 1
   Always P = (C : Name → Type 0) → Closed (modules s) (requestOf q) C → P C
 
-  absent-cause : (n : Name) (p : QueuedBy) → Always (λ C. AbsentBy (modules s) (requestOf q) C n p) → Cause s q (absentOf s q (length n) p)
+  absent-cause : (ws : List ℕ) (n : Name) (p : QueuedBy) → Always (λ C. AbsentBy (modules s) (requestOf q) C n p) → Cause s q ws (absentOf s q (length n) p)
   unfolding absentOf partOf
-  absent-cause n p all = turned p all (all Whatever (trivial (modules s) (requestOf q)))
+  absent-cause ws n p all = turned p all (all Whatever (trivial (modules s) (requestOf q)))
     where
-      turned : (p : QueuedBy) → Always (λ C. AbsentBy (modules s) (requestOf q) C n p) → AbsentBy (modules s) (requestOf q) Whatever n p → Cause s q (absentOf s q (length n) p)
+      turned : (p : QueuedBy) → Always (λ C. AbsentBy (modules s) (requestOf q) C n p) → AbsentBy (modules s) (requestOf q) Whatever n p → Cause s q ws (absentOf s q (length n) p)
       turned base all w = absurd (w .stands)
       turned (provider i) all w = absurd (true≠false (w .stands) (w .absent))
       turned (root i) all w =
@@ -185,9 +189,9 @@ module _ (s q : List ℕ) (k : ℕ) (h : checkInputs s q .answer ≡ Set.Modules
     inside = λ C c. subst C (sym (name-is n d f)) (all C c);
   }
 
-  shared-cause : (p a b : Name) → Always (λ C. SharedBy (modules s) (requestOf q) C p a b) → Cause s q (splitOf s p (indexOf a (modules s)) (indexOf b (modules s)))
+  shared-cause : (ws : List ℕ) (p a b : Name) → Always (λ C. SharedBy (modules s) (requestOf q) C p a b) → Cause s q ws (splitOf s p (indexOf a (modules s)) (indexOf b (modules s)))
   unfolding splitOf partOf
-  shared-cause p a b all =
+  shared-cause ws p a b all =
       is-shared (bodyStart (firstIn Kind.Package (p ∷ []) (startIn s (indexOf b (modules s))) (recordsAt s (indexOf b (modules s)))) + 1) (length p) (indexOf a (modules s)) (indexOf b (modules s))
       (subst (λ (x : Name). SharedPackage s q x (indexOf a (modules s)) (indexOf b (modules s))) (sym told-is)
       record {
@@ -208,32 +212,37 @@ module _ (s q : List ℕ) (k : ℕ) (h : checkInputs s q .answer ≡ Set.Modules
       told-is : take (length p) (drop (bodyStart (firstIn Kind.Package (p ∷ []) (startIn s (indexOf b (modules s))) (recordsAt s (indexOf b (modules s)))) + 1) s) ≡ p
       told-is = package-bytes s k t g et (indexOf b (modules s)) p (index-in b (modules s) (has-find b (modules s) (w .second) (w .second-found))) mine
 
-  error-cause : (r : Refusal) → (r ≡ ranOut → ⊥) → Always (λ C. Caused (modules s) (requestOf q) C r) → Cause s q (errorOf s q r)
+  error-cause : (r : Refusal) → (r ≡ ranOut → ⊥) → Always (λ C. Caused (modules s) (requestOf q) C r) → (ws : List ℕ) → Cause s q ws (errorOf s q r)
   unfolding errorOf
-  error-cause (moduleNotFound n p) o all = absent-cause n p all
-  error-cause javaBaseNotFound o all = no-base record { taken = both; absent = all Whatever (trivial (modules s) (requestOf q)) }
-  error-cause (splitPackage p a b) o all = shared-cause p a b all
-  error-cause ranOut o all = absurd (o refl)
+  error-cause (moduleNotFound n p) o all ws = absent-cause ws n p all
+  error-cause javaBaseNotFound o all ws = no-base record { taken = both; absent = all Whatever (trivial (modules s) (requestOf q)) }
+  error-cause (splitPackage p a b) o all ws = shared-cause ws p a b all
+  error-cause ranOut o all ws = absurd (o refl)
 
 -- ---- the whole
 
 -- what a refusal of `resolve` says is true
-pub cause-true : (s q : List ℕ) (e : ModuleError) → resolve s q .outcome ≡ Refused e → Cause s q e
-unfolding resolve told refused answered
-cause-true s q e h = turned (checkInputs s q .answer) refl h
+pub cause-true : (s q ws : List ℕ) (e : ModuleError) → resolve s q ws .outcome ≡ Refused e → Cause s q ws e
+unfolding resolve told refused answered withWords
+cause-true s q ws e h = turned (checkInputs s q .answer) refl h
   where
     same : (x : ModuleError) → Refused x ≡ Refused e → x ≡ e
     same x k = cc
 
     ended : (k : ℕ) → checkInputs s q .answer ≡ Set.Modules k → (r : Result State Refusal) → Resolution.resolve (modules s) (requestOf q) ≡ r
-        → told s q r .outcome ≡ Refused e → Cause s q e
+        → told s q ws r .outcome ≡ Refused e → Cause s q ws e
     ended k c (failed r) f w =
-        subst (Cause s q) (same (errorOf s q r) w)
-        (error-cause s q k c r (λ o. never-out (modules s) (requestOf q) (f ∙ ap failed o)) (λ C d. refusal-caused (modules s) (requestOf q) C d r f))
+        subst (Cause s q ws) (same (errorOf s q r) w)
+        (error-cause s q k c r (λ o. never-out (modules s) (requestOf q) (f ∙ ap failed o)) (λ C d. refusal-caused (modules s) (requestOf q) C d r f) ws)
     ended k c (done st) f w = absurd (clash (cc))
 
-    turned : (a : SetAnswer) → checkInputs s q .answer ≡ a → answered s q a .outcome ≡ Refused e → Cause s q e
+    fits : (k : ℕ) → checkInputs s q .answer ≡ Set.Modules k → (b : Bool) → ltb (length ws) wordCount ≡ b
+        → answered s q ws (pickAnswer b (Set.Refused (OutputTooShort wordCount)) (Set.Modules k)) .outcome ≡ Refused e → Cause s q ws e
+    fits k c true l w = subst (Cause s q ws) (same (OutputTooShort wordCount) w) (is-short record { taken = record { modules = k; is = c }; short = ltb-true (length ws) wordCount l })
+    fits k c false l w = ended k c (Resolution.resolve (modules s) (requestOf q)) refl w
+
+    turned : (a : SetAnswer) → checkInputs s q .answer ≡ a → answered s q ws (withWords ws a) .outcome ≡ Refused e → Cause s q ws e
     turned (Set.Refused x) c w =
         let y : x ≡ e = same x w in
-        subst (Cause s q) y (is-checked x (check-number s q x c) c)
-    turned (Set.Modules k) c w = ended k c (Resolution.resolve (modules s) (requestOf q)) refl w
+        subst (Cause s q ws) y (is-checked x (check-number s q x c) c)
+    turned (Set.Modules k) c w = fits k c (ltb (length ws) wordCount) refl w

@@ -3,7 +3,7 @@ use mathlib.Core.Path.{_≡_, refl, sym, ap, _∙_, subst}
 use Prim.Native.Nat.{ℕ, zero, suc, _≤_, _<_}
 use native.Mathlib.Omega.{arith}
 use mathlib.Core.Bool.{Bool, true, false, _&&_, _||_}
-use mathlib.Core.List.{List, [], _∷_, map}
+use mathlib.Core.List.{List, [], _∷_, _++_, map}
 use lib.Dec.{eqb}
 use lib.ListN.{length, length-map}
 use borrow.Author.Tests.{eqb-true, ne-eqb}
@@ -17,13 +17,15 @@ use Rattle.resolution.specs.Lists.{Mem, any}
 use Rattle.resolution.specs.Loop.{done}
 use Rattle.resolution.specs.Positions.{moduleAt, isVisible}
 use Rattle.resolution.specs.Resolution.{State, hasModule, resolve}
-use Rattle.resolution.specs.Resolve.{configurationOf, memberAt, words}
+use Rattle.resolution.specs.Configuration.{memberWords}
+use Rattle.resolution.specs.Resolve.{configurationOf, memberAt, edgeAt, unnamedAt}
 use Rattle.resolution.specs.Resolver.{isOneOf, resolveAt, startOn}
-use Rattle.resolution.specs.Row.{countBelow, holds, one, size}
+use Rattle.resolution.specs.Row.{countBelow, holds, one, size, words}
 use Rattle.resolution.proofs.Positions.{has-at, index-at, visible-in, visible-located}
 use Rattle.resolution.proofs.ResolverOrder.{allDiffer, few, one-of-out}
 use Rattle.resolution.proofs.ResolverWhole.{Accepts, resolver-accepts}
 use Rattle.resolution.proofs.Sets.{set-length}
+use Rattle.resolution.proofs.ConfigurationWords.{members-are}
 use Rattle.resolution.proofs.WordBits.{holds-words}
 use Rattle.resolution.proofs.row.Counts.{count-none, count-same, count-suc, count-zero, one-le}
 
@@ -69,28 +71,29 @@ module _ (s : List Descriptor) (ps : List ℕ) (within : (p : ℕ) → Mem p ps 
       hidden f = sym (by (isOneOf k ps) (λ y. true≠false (within k (one-of-out k ps y)) f) (λ y. y))
 
   -- the words hold as many as there are positions
-  size-is : length s ≤ 256 → allDiffer ps ≡ true → size (words (memberAt s (map (moduleAt s) ps)) 4) ≡ length ps
+  size-is : length s ≤ 512 → allDiffer ps ≡ true → size (words (memberAt s (map (moduleAt s) ps)) 8) ≡ length ps
   unfolding size
   size-is long once =
-      count-same (holds (words (memberAt s (map (moduleAt s) ps)) 4)) (λ k. isOneOf k ps) 256
-      (λ k l. holds-words (memberAt s (map (moduleAt s) ps)) 4 k (omega arith) ∙ member-is k)
-      ∙ count-list 256 ps (λ p m. omega (arith, visible-in s p (within p m))) once
+      count-same (holds (words (memberAt s (map (moduleAt s) ps)) 8)) (λ k. isOneOf k ps) 512
+      (λ k l. holds-words (memberAt s (map (moduleAt s) ps)) 8 k (omega arith) ∙ member-is k)
+      ∙ count-list 512 ps (λ p m. omega (arith, visible-in s p (within p m))) once
 
 -- ---- the whole
 
 -- the number of ones in the member words is the number of modules resolved
 pub count-resolved : (s q : List ℕ) (n : ℕ) (t : List ℕ) → checkSet s ≡ record { answer = Modules n; starts = t }
-    → (st : State) → resolve (modules s) (requestOf q) ≡ done st
-    → size (configurationOf (modules s) (requestOf q) (st .resolved) .members) ≡ length (st .resolved)
+    → (st : State) → resolve (modules s) (requestOf q) ≡ done st → (rest : List ℕ)
+    → size (memberWords (configurationOf (modules s) (requestOf q) (st .resolved) ++ rest)) ≡ length (st .resolved)
 unfolding configurationOf
-count-resolved s q n t e st h =
+count-resolved s q n t e st h rest =
     let g : GoodSet s n t = good-set s n t e in
     let long : length (modules s) ≡ n = set-length s n t g in
     let permits : ℕ → Bool = (λ i. isVisible (modules s) i && isPermitted (requestOf q) (moduleAt (modules s) i .name)) in
-    let ws : List ℕ = words permits 4 in
+    let ws : List ℕ = words permits 8 in
     let a : Accepts s n (resolveAt (startOn s q n t ws)) (st .resolved)
-    = resolver-accepts s q n t e ws (λ i l. holds-words permits 4 i (omega (arith, g .few))) st h in
+    = resolver-accepts s q n t e ws (λ i l. holds-words permits 8 i (omega (arith, g .few))) st h in
     let ps : List ℕ = resolveAt (startOn s q n t ws) .order in
-    subst (λ (ms : List Descriptor). size (words (memberAt (modules s) ms) 4) ≡ length ms) (sym (a .modules-are))
+    ap size (members-are (memberAt (modules s) (st .resolved)) (edgeAt (modules s) (requestOf q) (st .resolved)) (unnamedAt (modules s) (requestOf q) (st .resolved)) rest)
+    ∙ subst (λ (ms : List Descriptor). size (words (memberAt (modules s) ms) 8) ≡ length ms) (sym (a .modules-are))
     (size-is (modules s) ps (a .visible) (omega (arith, long, g .few)) (a .once)
     ∙ sym (length-map ps (moduleAt (modules s))))

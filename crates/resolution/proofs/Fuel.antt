@@ -214,7 +214,7 @@ module _ (s : List Descriptor) (rq : Request) where
       turned (enqueued met []) e k = stop≠fail k
       turned (enqueued met (a ∷ q)) e k = ended met a q e _ refl k
 
-  -- Any number of rounds above the number of modules is enough, from any state: with 256 modules, 1024
+  -- Any number of rounds above the number of modules is enough, from any state: with 512 modules, 1024
   pub rounds-fuel : (f : ℕ) → length s < f → (st : State) → loop (round s rq) ranOut f st ≡ failed ranOut → ⊥
   rounds-fuel f b st h =
       let n : length (names s) ≡ length s = length-map s (λ (m : Descriptor). m .name) in
@@ -223,11 +223,11 @@ module _ (s : List Descriptor) (rq : Request) where
       round-out (r .0) (r .2)
 
   -- a 1025th round never occurs
-  pub rounds-1024 : length s ≤ 256 → (st : State) → loop (round s rq) ranOut 1024 st ≡ failed ranOut → ⊥
+  pub rounds-1024 : length s ≤ 512 → (st : State) → loop (round s rq) ranOut 1024 st ≡ failed ranOut → ⊥
   rounds-1024 b st h = rounds-fuel 1024 (omega arith) st h
 
   -- and 1024 rounds give what `resolve` takes
-  pub rounds-same : length s ≤ 256 → (st : State) → loop (round s rq) ranOut 1024 st ≡ loop (round s rq) ranOut (suc (length s)) st
+  pub rounds-same : length s ≤ 512 → (st : State) → loop (round s rq) ranOut 1024 st ≡ loop (round s rq) ranOut (suc (length s)) st
   rounds-same b st =
       let n : length (names s) ≡ length s = length-map s (λ (m : Descriptor). m .name) in
       let l : fresh (names s) (st .met) ≤ length (names s) = fresh-length (names s) (st .met) in

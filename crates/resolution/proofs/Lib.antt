@@ -28,6 +28,7 @@ pub mod ResolverWhole
 pub mod ByteCases
 pub mod WordBits
 pub mod Words
+pub mod ConfigurationWords
 pub mod Observed
 pub mod Hidden
 pub mod PackageOwner

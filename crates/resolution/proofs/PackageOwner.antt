@@ -5,8 +5,8 @@ use native.Mathlib.Omega.{arith}
 use native.Mathlib.Nat.{add-zero}
 use mathlib.Core.Bool.{Bool, true, false}
 use mathlib.Core.Option.{Option, none, some}
-use mathlib.Core.List.{List}
-use lib.ListN.{length}
+use mathlib.Core.List.{List, _++_}
+use lib.ListN.{length, drop, length-append}
 use Rattle.records.specs.Bytes.{sameBytes}
 use Rattle.records.specs.Name.{memName}
 use Rattle.records.specs.Descriptor.{Descriptor}
@@ -28,15 +28,18 @@ use Rattle.resolution.specs.Resolution as Resolution
 use Rattle.resolution.specs.Closed.{Accepted}
 use Rattle.resolution.specs.Positions.{moduleAt, isVisible}
 use Rattle.resolution.specs.Observed.{hasMember}
-use Rattle.resolution.specs.Resolve.{memberAt, configurationOf, told, answered, resolve}
+use Rattle.resolution.specs.Resolve.{memberAt, edgeAt, unnamedAt, configurationOf, told, answered, resolve}
+use Rattle.resolution.specs.Resolve as Resolve
+use Rattle.resolution.specs.declared.resolve.Outcome.the-variants as Outcome
 use Rattle.resolution.specs.PackageOwner.{pickOwner, ownsAt, lowest, ownerIn, findModuleForPackage}
-use Rattle.resolution.specs.declared.configuration.Configuration.{Configuration}
+use Rattle.resolution.specs.Configuration.{wordCount}
 use Rattle.resolution.specs.declared.owner.Owner.{Owner}
 use Rattle.resolution.specs.declared.owner.Owner.the-variants.{At, Nothing, Refused}
 use Rattle.resolution.proofs.Lists.{any-in, first-in, first-out, memName-in, memName-out}
 use Rattle.resolution.proofs.Find.{find-mem, has-find, has-some}
 use Rattle.resolution.proofs.Positions.{find-at, index-at, index-visible, visible-in, visible-found}
 use Rattle.resolution.proofs.Sets.{set-length, set-accepted}
+use Rattle.resolution.proofs.ConfigurationWords.{words-of-length, with-enough}
 use Rattle.resolution.proofs.Observed.{member-is, member-visible}
 use Rattle.records.proofs.request.Taken.{inputs-taken}
 
@@ -77,7 +80,7 @@ module _ (q : ℕ → Bool) where
 -- ---- in a set that the check takes, of the modules resolved
 
 -- what the function says of a package, and which module owns it
-pub record OwnerTold (s : List ℕ) (c : Configuration) (R : List Descriptor) (p : Name) : Type 0 where
+pub record OwnerTold (s c : List ℕ) (R : List Descriptor) (p : Name) : Type 0 where
   pub at : (i : ℕ) → findModuleForPackage s c p ≡ At i → (isVisible (modules s) i ≡ true) × (owner R p ≡ some (moduleAt (modules s) i .name))
   pub is-at : (i : ℕ) → isVisible (modules s) i ≡ true → owner R p ≡ some (moduleAt (modules s) i .name) → findModuleForPackage s c p ≡ At i
   pub nothing : findModuleForPackage s c p ≡ Nothing → owner R p ≡ none
@@ -87,13 +90,13 @@ record Owns (R : List Descriptor) (p : Name) (m : Descriptor) : Type 0 where
   resolved : Mem m R
   has : Mem p (m .packages)
 
-module _ (s : List ℕ) (n : ℕ) (t : List ℕ) (g : GoodSet s n t) (rq : Request) (R : List Descriptor) (a : Accepted (modules s) rq R) (p : Name) where
+module _ (s : List ℕ) (n : ℕ) (t : List ℕ) (g : GoodSet s n t) (rq : Request) (R : List Descriptor) (a : Accepted (modules s) rq R) (p : Name) (rest : List ℕ) where
   abbrev owns : ℕ → Bool
-  owns = ownsAt (modules s) (configurationOf (modules s) rq R) p
+  owns = ownsAt (modules s) (configurationOf (modules s) rq R ++ rest) p
 
   -- a member is observable, and resolved
-  held : (i : ℕ) → hasMember (modules s) (configurationOf (modules s) rq R) i ≡ memberAt (modules s) R i
-  held i = member-is (modules s) (omega (arith, set-length s n t g, g .few)) rq R i
+  held : (i : ℕ) → hasMember (modules s) (configurationOf (modules s) rq R ++ rest) i ≡ memberAt (modules s) R i
+  held i = member-is (modules s) (omega (arith, set-length s n t g, g .few)) rq R rest i
 
   -- a resolved module of the name at a position is the module there
   same-module : (i : ℕ) → isVisible (modules s) i ≡ true → (m : Descriptor) → Mem m R → m .name ≡ moduleAt (modules s) i .name → m ≡ moduleAt (modules s) i
@@ -105,14 +108,14 @@ module _ (s : List ℕ) (n : ℕ) (t : List ℕ) (g : GoodSet s n t) (rq : Reque
   -- a position that owns it is not hidden
   owns-seen : (i : ℕ) → owns i ≡ true → isVisible (modules s) i ≡ true
   unfolding ownsAt
-  owns-seen i h = member-visible (modules s) (configurationOf (modules s) rq R) i
-      (and-left (hasMember (modules s) (configurationOf (modules s) rq R) i) (memName p (moduleAt (modules s) i .packages)) h)
+  owns-seen i h = member-visible (modules s) (configurationOf (modules s) rq R ++ rest) i
+      (and-left (hasMember (modules s) (configurationOf (modules s) rq R ++ rest) i) (memName p (moduleAt (modules s) i .packages)) h)
 
   owns-out : (i : ℕ) → owns i ≡ true → Owns R p (moduleAt (modules s) i)
   unfolding ownsAt memberAt
   owns-out i h =
       let m : Descriptor = moduleAt (modules s) i in
-      let o = and-split (hasMember (modules s) (configurationOf (modules s) rq R) i) (memName p (m .packages)) h in
+      let o = and-split (hasMember (modules s) (configurationOf (modules s) rq R ++ rest) i) (memName p (m .packages)) h in
       let b = and-split (isVisible (modules s) i) (hasModule R (m .name)) (sym (held i) ∙ o .0) in
       let f = has-some (m .name) R (b .1) in
       let r = find-mem (m .name) R (f .0) (f .1) in
@@ -192,35 +195,41 @@ module _ (s : List ℕ) (n : ℕ) (t : List ℕ) (g : GoodSet s n t) (rq : Reque
   told-none (At i) e h = let q : some (moduleAt (modules s) i .name) ≡ none = sym (told-at i e .1) ∙ h in clash (cc)
   told-none (Refused x) e h = absurd (from-not-refused owns 0 n x e)
 
-whole : (s : List ℕ) (c : Configuration) (p : Name) (n : ℕ) → checkSet s .answer ≡ Modules n → findModuleForPackage s c p ≡ lowest (ownsAt (modules s) c p) 0 n
+whole : (s c : List ℕ) (p : Name) (n : ℕ) → checkSet s .answer ≡ Modules n → wordCount ≤ length c → findModuleForPackage s c p ≡ lowest (ownsAt (modules s) c p) 0 n
 unfolding findModuleForPackage ownerIn
-whole s c p n w = rw w
+whole s c p n w l = ap (ownerIn s c p) (with-enough c (checkSet s .answer) n w l)
+
+more-words : (a b : List ℕ) → length a ≡ 4616 → wordCount ≤ length (a ++ b)
+more-words a b e = omega (arith, length-append a b)
+
+pub long-enough : (s : List Descriptor) (rq : Request) (ms : List Descriptor) (rest : List ℕ) → wordCount ≤ length (configurationOf s rq ms ++ rest)
+long-enough s rq ms rest = more-words (configurationOf s rq ms) rest (unfold configurationOf in words-of-length (memberAt s ms) (edgeAt s rq ms) (unnamedAt s rq ms))
 
 -- for the configuration that resolution gives, the position found is that of the owner
 pub owner-told : (s q : List ℕ) (n : ℕ) (st : State) → checkInputs s q .answer ≡ Modules n → Resolution.resolve (modules s) (requestOf q) ≡ done st
-    → (p : Name) → OwnerTold s (configurationOf (modules s) (requestOf q) (st .resolved)) (st .resolved) p
-owner-told s q n st h e p =
+    → (p : Name) (rest : List ℕ) → OwnerTold s (configurationOf (modules s) (requestOf q) (st .resolved) ++ rest) (st .resolved) p
+owner-told s q n st h e p rest =
     let c : checkSet s ≡ record { answer = Modules n; starts = checkInputs s q .starts } = inputs-taken s q n (checkInputs s q) refl h in
     let t : List ℕ = checkInputs s q .starts in
     let g : GoodSet s n t = good-set s n t c in
     let R : List Descriptor = st .resolved in
     let a : Accepted (modules s) (requestOf q) R = set-accepted s n t g (requestOf q) st e in
-    let w = whole s (configurationOf (modules s) (requestOf q) R) p n (ap (λ (x : Checked). x .answer) c) in
+    let w = whole s (configurationOf (modules s) (requestOf q) R ++ rest) p n (ap (λ (x : Checked). x .answer) c) (long-enough (modules s) (requestOf q) R rest) in
     record {
-      at = λ i k. told-at s n t g (requestOf q) R a p i (sym w ∙ k);
-      is-at = λ i l k. w ∙ told-is s n t g (requestOf q) R a p i l k;
-      nothing = λ k. told-nothing s n t g (requestOf q) R a p (owner R p) refl (sym w ∙ k);
-      is-nothing = λ k. w ∙ told-none s n t g (requestOf q) R a p (lowest (ownsAt (modules s) (configurationOf (modules s) (requestOf q) R) p) 0 n) refl k;
+      at = λ i k. told-at s n t g (requestOf q) R a p rest i (sym w ∙ k);
+      is-at = λ i l k. w ∙ told-is s n t g (requestOf q) R a p rest i l k;
+      nothing = λ k. told-nothing s n t g (requestOf q) R a p rest (owner R p) refl (sym w ∙ k);
+      is-nothing = λ k. w ∙ told-none s n t g (requestOf q) R a p rest (lowest (ownsAt (modules s) (configurationOf (modules s) (requestOf q) R ++ rest) p) 0 n) refl k;
     }
 
-configuration-is : (s q : List ℕ) (n : ℕ) (st : State) → checkInputs s q .answer ≡ Modules n → Resolution.resolve (modules s) (requestOf q) ≡ done st
-    → resolve s q .configuration ≡ configurationOf (modules s) (requestOf q) (st .resolved)
+pub words-are-told : (s q ws : List ℕ) (n : ℕ) (st : State) → checkInputs s q .answer ≡ Modules n → wordCount ≤ length ws → Resolution.resolve (modules s) (requestOf q) ≡ done st
+    → resolve s q ws ≡ record { outcome = Outcome.Accepted; words = configurationOf (modules s) (requestOf q) (st .resolved) ++ drop wordCount ws }
 unfolding resolve answered told
-configuration-is s q n st h e =
-    ap (λ (a : SetAnswer). answered s q a .configuration) h ∙ ap (λ (r : Result State Refusal). told s q r .configuration) e
+words-are-told s q ws n st h l e =
+    ap (answered s q ws) (with-enough ws (checkInputs s q .answer) n h l) ∙ ap (told s q ws) e
 
--- the same of what `resolve` over the bytes gives
-pub owner-resolved : (s q : List ℕ) (n : ℕ) (st : State) → checkInputs s q .answer ≡ Modules n → Resolution.resolve (modules s) (requestOf q) ≡ done st
-    → (p : Name) → OwnerTold s (resolve s q .configuration) (st .resolved) p
-owner-resolved s q n st h e p =
-    subst (λ (c : Configuration). OwnerTold s c (st .resolved) p) (sym (configuration-is s q n st h e)) (owner-told s q n st h e p)
+-- the same of what `resolve` over the bytes writes
+pub owner-resolved : (s q ws : List ℕ) (n : ℕ) (st : State) → checkInputs s q .answer ≡ Modules n → wordCount ≤ length ws → Resolution.resolve (modules s) (requestOf q) ≡ done st
+    → (p : Name) → OwnerTold s (resolve s q ws .words) (st .resolved) p
+owner-resolved s q ws n st h l e p =
+    subst (λ (c : List ℕ). OwnerTold s c (st .resolved) p) (sym (ap (λ (r : Resolve.ResolveResult). r .words) (words-are-told s q ws n st h l e))) (owner-told s q n st h e p (drop wordCount ws))

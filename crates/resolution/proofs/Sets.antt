@@ -1,4 +1,4 @@
--- Of a set that the check takes: there are at most 256 modules; its modules by position and by name; and when it has all
+-- Of a set that the check takes: there are at most 512 modules; its modules by position and by name; and when it has all
 -- observable modules of another, unaltered.
 use mathlib.Core.Path.{_≡_, refl, sym, ap, _∙_, subst}
 use Prim.Native.Nat.{ℕ, suc, _≤_, _<_}
@@ -81,7 +81,7 @@ module _ (s : List ℕ) (n : ℕ) (t : List ℕ) (e : checkSet s ≡ record { an
   set-lookup index x = record { few = good-set s n t e .few; within = starts-room; indexed = x }
 
 -- and what that has in it
-pub lookup-few : (s t index : List ℕ) (n : ℕ) → Lookup s t n index → n ≤ 256
+pub lookup-few : (s t index : List ℕ) (n : ℕ) → Lookup s t n index → n ≤ 512
 lookup-few s t index n x = x .few
 
 pub lookup-room : (s t index : List ℕ) (n : ℕ) → Lookup s t n index → n ≤ length t

@@ -1,16 +1,14 @@
 -- The words of a test hold the positions that pass.
-use mathlib.Core.Path.{_≡_, sym, ap, _∙_}
+use mathlib.Core.Path.{_≡_, refl, sym, ap, _∙_}
 use mathlib.Core.Bool.{Bool, true, false}
-use mathlib.Core.List.{List}
-use Prim.Native.Nat.{ℕ, zero, suc, _+_, _*_, _/_, _%_, _<_}
+use Prim.Native.Nat.{ℕ, zero, suc, _+_, _*_, _/_, _%_, _≤_, _<_}
 use native.Mathlib.Omega.{arith}
-use lib.Dec.{eqb}
-use lib.ListN.{getD}
-use borrow.Author.Tests.{lt-ltb}
-use Rattle.resolution.specs.Row.{bit, holds, one}
-use Rattle.resolution.specs.Graph.{edge}
-use Rattle.resolution.specs.Resolve.{bitsFrom, wordsFrom, words}
-use Rattle.resolution.proofs.row.Bits.{bit-low, bit-high}
+use lib.Dec.{eqb, ltb}
+use lib.ListN.{length, getD, List·getD-eq-default}
+use borrow.Author.Tests.{ltb-true, ltb-false}
+use Rattle.records.proofs.Logic.{by}
+use Rattle.resolution.specs.Row.{bit, holds, one, bitsFrom, wordsFrom, words}
+use Rattle.resolution.proofs.row.Bits.{bit-low, bit-high, bit-zero}
 
 -- a number from its lowest bit and the rest
 low : (b : Bool) (y : ℕ) → eqb ((one b + 2 * y) % 2) 1 ≡ b
@@ -49,10 +47,22 @@ holds-words p n k l =
     let z : (0 + k / 64) * 64 + k % 64 ≡ k = omega arith in
     ap (λ (w : ℕ). bit w (k % 64)) (word-at p 0 n (k / 64) a) ∙ bits-at p ((0 + k / 64) * 64) 64 (k % 64) b ∙ ap p z
 
--- row i has bits 256 i to 256 i + 255
-pub row-bit : (g : List ℕ) (i j : ℕ) → j < 256 → edge g i j ≡ holds g (i * 256 + j)
-unfolding edge holds
-row-bit g i j l =
-    let a : (i * 256 + j) / 64 ≡ i * 4 + j / 64 = omega arith in
-    let b : (i * 256 + j) % 64 ≡ j % 64 = omega arith in
-    rw (lt-ltb j 256 l, a, b)
+-- as many words as are asked for
+words-long : (p : ℕ → Bool) (i n : ℕ) → length (wordsFrom p i n) ≡ n
+unfolding wordsFrom
+words-long p i zero = refl
+words-long p i (suc n) = ap suc (words-long p (suc i) n)
+
+pub words-length : (p : ℕ → Bool) (n : ℕ) → length (words p n) ≡ n
+unfolding words
+words-length p n = words-long p 0 n
+
+-- a position that does not pass is not held, also past the words
+pub not-held : (p : ℕ → Bool) (n k : ℕ) → p k ≡ false → holds (words p n) k ≡ false
+not-held p n k f = by (ltb k (n * 64))
+    (λ h. holds-words p n k (ltb-true k (n * 64) h) ∙ f)
+    (λ h. past (ltb-false k (n * 64) h))
+  where
+    past : n * 64 ≤ k → holds (words p n) k ≡ false
+    past l = unfold holds in
+        (ap (λ (w : ℕ). bit w (k % 64)) (List·getD-eq-default (words p n) 0 {n = k / 64} (omega (arith, words-length p n))) ∙ bit-zero (k % 64))

@@ -9,12 +9,9 @@ use native.Mathlib.Omega.{arith}
 use lib.Arith.{lt-one}
 use lib.Pow.{shr-lt}
 use lib.ListN.{length, getD}
-use Rattle.resolution.specs.Row.{bit, holds, one}
-use Rattle.resolution.specs.Graph.{edge}
-use Rattle.resolution.specs.Resolve.{bitsFrom, wordsFrom, words}
+use Rattle.resolution.specs.Row.{bit, holds, one, bitsFrom, wordsFrom, words}
 use Rattle.resolution.proofs.row.Bits.{bit-low, bit-high}
 use Rattle.resolution.proofs.row.Counts.{one-digit}
-use Rattle.resolution.proofs.reach.Edges.{edge-is}
 
 -- a number of n bits
 pub bits-are : (p : ℕ → Bool) (n k w : ℕ) → w < 2 ^ n → ((b : ℕ) → b < n → bit w b ≡ p (k + b)) → w ≡ bitsFrom p k n
@@ -46,14 +43,6 @@ pub words-are : (p : ℕ → Bool) (ws : List ℕ) (n : ℕ) → length ws ≡ n
 unfolding words holds
 words-are p ws n e f h = words-from p ws n 0 e f (λ j b lj lb.
     ap₂ (λ (x y : ℕ). bit (getD ws x 0) y) (omega arith) (omega arith) ∙ h (j * 64 + b) (omega arith) ∙ ap p (omega arith))
-
--- the words of a graph are those of its edges, row by row
-pub edges-are : (e : ℕ → ℕ → Bool) (g : List ℕ) → length g ≡ 1024 → ((i : ℕ) → getD g i 0 < 2 ^ 64)
-    → ((i j : ℕ) → i < 256 → j < 256 → edge g i j ≡ e i j) → g ≡ words (λ k. e (k / 256) (k % 256)) 1024
-unfolding holds
-edges-are e g n f h = words-are (λ k. e (k / 256) (k % 256)) g 1024 n f (λ k l.
-    ap₂ (λ (x y : ℕ). bit (getD g x 0) y) (omega arith) (omega arith)
-    ∙ sym (edge-is g (k / 256) (k % 256) (omega arith)) ∙ h (k / 256) (k % 256) (omega arith) (omega arith))
 
 -- two tests that are the same have the same words
 bits-over : (p q : ℕ → Bool) → ((k : ℕ) → p k ≡ q k) → (k n : ℕ) → bitsFrom p k n ≡ bitsFrom q k n

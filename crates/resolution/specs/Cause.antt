@@ -3,7 +3,8 @@
 use mathlib.Core.Path.{_≡_}
 use mathlib.Core.Bool.{true, false}
 use mathlib.Core.List.{List}
-use Prim.Native.Nat.{ℕ, _≤_}
+use Prim.Native.Nat.{ℕ, _≤_, _<_}
+use lib.ListN.{length}
 use Rattle.records.specs.Bytes.{sameBytes}
 use Rattle.records.specs.Error.{numberOf}
 use Rattle.records.specs.Name.{javaBase, memName}
@@ -13,11 +14,12 @@ use Rattle.records.specs.Set.{modules}
 use Rattle.records.specs.declared.error.Input.{Input}
 use Rattle.records.specs.declared.error.Input.the-variants as Input
 use Rattle.records.specs.declared.error.ModuleError.{ModuleError}
-use Rattle.records.specs.declared.error.ModuleError.the-variants.{ModuleNotFound, JavaBaseNotFound, SplitPackage}
+use Rattle.records.specs.declared.error.ModuleError.the-variants.{OutputTooShort, ModuleNotFound, JavaBaseNotFound, SplitPackage}
 use Rattle.records.specs.declared.set.SetAnswer.the-variants as Set
 use Rattle.resolution.specs.Lists.{Name, Mem}
 use Rattle.resolution.specs.Absent.{partOf}
 use Rattle.resolution.specs.Closed.{Closed}
+use Rattle.resolution.specs.Configuration.{wordCount}
 use Rattle.resolution.specs.Positions.{moduleAt, isVisible}
 use Rattle.resolution.specs.Resolution.{hasModule}
 
@@ -74,9 +76,15 @@ pub record SharedPackage (s q : List ℕ) (p : Name) (owner second : ℕ) : Type
   pub first-has : memName p (moduleAt (modules s) owner .packages) ≡ true
   pub other-has : memName p (moduleAt (modules s) second .packages) ≡ true
 
--- why `resolve` refuses with e: 1, 2 and 3 are those of the check; 4, 8, 9 and 10 do not occur
-pub data Cause (s q : List ℕ) : ModuleError → Type 1 where
-  is-checked : (e : ModuleError) → numberOf e ≤ 3 → checkInputs s q .answer ≡ Set.Refused e → Cause s q e
-  is-absent : (i : Input) (at n : ℕ) → AbsentModule s q i (partOf s q i at n) → Cause s q (ModuleNotFound i at n)
-  no-base : AbsentBase s q → Cause s q JavaBaseNotFound
-  is-shared : (at n owner second : ℕ) → SharedPackage s q (partOf s q Input.Set at n) owner second → Cause s q (SplitPackage at n owner second)
+-- 4 (U12): fewer words are lent than a configuration has
+pub record ShortWords (s q ws : List ℕ) : Type 0 where
+  pub taken : Taken s q
+  pub short : length ws < wordCount
+
+-- why `resolve` refuses with e, where ws are the lent words: 1, 2 and 3 are those of the check; 8, 9 and 10 do not occur
+pub data Cause (s q ws : List ℕ) : ModuleError → Type 1 where
+  is-checked : (e : ModuleError) → numberOf e ≤ 3 → checkInputs s q .answer ≡ Set.Refused e → Cause s q ws e
+  is-absent : (i : Input) (at n : ℕ) → AbsentModule s q i (partOf s q i at n) → Cause s q ws (ModuleNotFound i at n)
+  no-base : AbsentBase s q → Cause s q ws JavaBaseNotFound
+  is-short : ShortWords s q ws → Cause s q ws (OutputTooShort wordCount)
+  is-shared : (at n owner second : ℕ) → SharedPackage s q (partOf s q Input.Set at n) owner second → Cause s q ws (SplitPackage at n owner second)

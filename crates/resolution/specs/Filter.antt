@@ -2,9 +2,10 @@
 -- questions about modules at positions as the code asks them, of a set and the table of its starts.
 use Prim.Native.Nat.{ℕ, _/_, _%_}
 use mathlib.Core.Path.{_≡_}
-use mathlib.Core.Bool.{Bool, true, false, _&&_, cond}
+use mathlib.Core.Bool.{Bool, true, false, _&&_, _||_, cond}
 use mathlib.Core.Option.{Option, none, some}
 use mathlib.Core.List.{List, []}
+use lib.Dec.{eqb}
 use Rattle.records.specs.Name.{memName}
 use Rattle.records.specs.Order.{nameIn}
 use Rattle.records.specs.Record.{bodies}
@@ -14,23 +15,23 @@ use Rattle.records.specs.declared.record.Kind.{Kind}
 use Rattle.records.specs.declared.record.Kind.the-variants as Kind
 use Rattle.resolution.specs.Lists.{Name, Mem, any, keep, first}
 use Rattle.resolution.specs.Owner.{least, lesser}
-use Rattle.resolution.specs.Graph.{edge}
+use Rattle.resolution.specs.Row.{holds}
 use Rattle.resolution.specs.Hash.{hashOf}
 use Rattle.resolution.specs.Resolver.{Inputs, blockOf, namesOf, requiresName}
 use Rattle.resolution.specs.declared.modules.Least.{Least}
 
 -- ---- the filter
 
--- bit h of the table
-unfoldable pub bitAt : List ℕ → ℕ → Bool
-bitAt words h = edge words (h / 256) (h % 256)
-
 -- both bits of a name's number are set
 unfoldable pub hasBits : List ℕ → ℕ → Bool
-hasBits words h = bitAt words (h % 65536) && bitAt words (h / 65536 % 65536)
+hasBits words h = holds words (h % 65536) && holds words (h / 65536 % 65536)
 
 unfoldable pub isMarked : List ℕ → Name → Bool
 isMarked words n = hasBits words (hashOf n)
+
+-- `after` has the bits of `before`, and bit a
+pub record BitSet (before : List ℕ) (a : ℕ) (after : List ℕ) : Type 0 where
+  pub each : (k : ℕ) → holds after k ≡ holds before k || eqb k a
 
 -- `after` has the bits of `before`, and both of this number
 pub record BitsSet (before : List ℕ) (h : ℕ) (after : List ℕ) : Type 0 where

@@ -1,4 +1,5 @@
--- A graph on positions below 256, as 256 rows of four words, and what a depth-first search by marks leaves.
+-- A graph on positions below 512, as rows of nine words: eight of its edges, and one whose lowest bit is an edge to ALL-UNNAMED; and
+-- what a depth-first search by marks leaves.
 use mathlib.Core.Path.{_≡_}
 use mathlib.Core.Bool.{Bool, true, false, not, _||_, _&&_}
 use mathlib.Core.List.{List}
@@ -10,7 +11,16 @@ use Rattle.resolution.specs.Row.{bit, holds, countBelow}
 
 -- there is an edge from i to j: bit j of row i
 unfoldable pub edge : List ℕ → ℕ → ℕ → Bool
-edge g i j = ltb j 256 && bit (getD g (i * 4 + j / 64) 0) (j % 64)
+edge g i j = ltb j 512 && bit (getD g (i * 9 + j / 64) 0) (j % 64)
+
+-- the ninth word of row i
+unfoldable pub ninth : List ℕ → ℕ → ℕ
+ninth g i = getD g (i * 9 + 8) 0
+
+-- there is an edge from i to ALL-UNNAMED: its lowest bit
+unfoldable pub unnamedEdge : List ℕ → ℕ → Bool
+unfolding ninth
+unnamedEdge g i = bit (ninth g i) 0
 
 -- ws holds the positions that an edge from i leads to, and no other
 pub record Successors (g : List ℕ) (i : ℕ) (ws : List ℕ) : Type 0 where
@@ -33,15 +43,9 @@ pub data Reach (g : List ℕ) (m : ℕ) : ℕ → Type 0 where
   step : {k : ℕ} → edge g m k ≡ true → Reach g m k
   then : {j k : ℕ} → Reach g m j → edge g j k ≡ true → Reach g m k
 
--- `after` is `before` with the edge from i to j more. From 256 on there is no position, and nothing changes
-pub record AddedEdge (before : List ℕ) (i j : ℕ) (after : List ℕ) : Type 0 where
-  pub edges : i < 256 → j < 256 → (a b : ℕ) → edge after a b ≡ edge before a b || (eqb a i && eqb b j)
-  pub past-source : 256 ≤ i → after ≡ before
-  pub past-target : 256 ≤ j → after ≡ before
-
 -- how many positions are not marked
 unfoldable pub unmarked : List ℕ → ℕ
-unmarked ws = countBelow (λ k. not (holds ws k)) 256
+unmarked ws = countBelow (λ k. not (holds ws k)) 512
 
 -- `after` is `before` with marks from m on: m's successors below n are marked
 pub record Collected (g : List ℕ) (m n : ℕ) (before after : List ℕ) : Type 0 where

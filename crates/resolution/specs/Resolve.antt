@@ -1,9 +1,9 @@
--- Resolution over bytes: a set and a request as byte strings give an outcome, with document 01's number and particulars on a
--- refusal, and a configuration.
-use Prim.Native.Nat.{ℕ, zero, suc, _+_, _*_, _/_, _%_}
+-- Resolution over bytes: a set and a request as byte strings, and the words that a host lends, give an outcome, with document 01's
+-- number and particulars on a refusal, and the words of a configuration.
+use Prim.Native.Nat.{ℕ, _+_}
 use mathlib.Core.Bool.{Bool, _&&_}
-use mathlib.Core.List.{List, [], _∷_}
-use lib.ListN.{length, getD, replicate}
+use mathlib.Core.List.{List, [], _∷_, _++_}
+use lib.ListN.{length, getD, drop}
 use Rattle.records.specs.Name.{allUnnamed}
 use Rattle.records.specs.Record.{records, nthIn, firstIn}
 use Rattle.records.specs.Descriptor.{Descriptor}
@@ -23,10 +23,9 @@ use Rattle.resolution.specs.Resolution.{hasModule, indexOf, QueuedBy, ba
 use Rattle.resolution.specs.Resolution as Resolution
 use Rattle.resolution.specs.Reads.{reads}
 use Rattle.resolution.specs.Positions.{moduleAt, isVisible}
-use Rattle.resolution.specs.Row.{one}
-use Rattle.resolution.specs.declared.configuration.Configuration.{Configuration}
+use Rattle.resolution.specs.Configuration.{wordCount, withWords, wordsOf}
+use Rattle.resolution.specs.declared.resolve.Outcome.{Outcome}
 use Rattle.resolution.specs.declared.resolve.Outcome.the-variants.{Accepted, Refused}
-use Rattle.resolution.specs.declared.resolve.Resolution.{Resolution}
 
 -- ---- refusals 5 to 7 with their particulars
 
@@ -64,23 +63,7 @@ errorOf s q javaBaseNotFound = JavaBaseNotFound
 errorOf s q (splitPackage n owner second) = splitOf s n (indexOf owner (modules s)) (indexOf second (modules s))
 errorOf s q ranOut = TooLarge 0
 
--- ---- the configuration: positions in set order, lowest bit first
-
--- n bits from position k on, as a number
-unfoldable pub bitsFrom : (ℕ → Bool) → ℕ → ℕ → ℕ
-bitsFrom p k zero = 0
-bitsFrom p k (suc n) = one (p k) + 2 * bitsFrom p (suc k) n
-
--- n words, from word i on
-unfoldable pub wordsFrom : (ℕ → Bool) → ℕ → ℕ → List ℕ
-unfolding bitsFrom
-wordsFrom p i zero = []
-wordsFrom p i (suc n) = bitsFrom p (i * 64) 64 ∷ wordsFrom p (suc i) n
-
--- the positions that pass, as n words
-unfoldable pub words : (ℕ → Bool) → ℕ → List ℕ
-unfolding wordsFrom
-words p n = wordsFrom p 0 n
+-- ---- the configuration of the modules resolved
 
 -- of the modules of a set s, where ms are resolved: module k is resolved; module i reads module j; module k reads ALL-UNNAMED. A
 -- module that is hidden is none
@@ -96,32 +79,34 @@ unfoldable pub unnamedAt : List Descriptor → Request → List Descriptor → �
 unfolding reads isVisible
 unnamedAt s rq ms k = isVisible s k && reads ms rq (moduleAt s k .name) allUnnamed
 
--- row i has bits 256 i to 256 i + 255
-unfoldable pub configurationOf : List Descriptor → Request → List Descriptor → Configuration
-unfolding words memberAt edgeAt unnamedAt
-configurationOf s rq ms = record {
-  members = words (memberAt s ms) 4;
-  reads = words (λ k. edgeAt s rq ms (k / 256) (k % 256)) 1024;
-  unnamed = words (unnamedAt s rq ms) 4;
-}
+-- its 4,616 words
+unfoldable pub configurationOf : List Descriptor → Request → List Descriptor → List ℕ
+unfolding wordsOf memberAt edgeAt unnamedAt
+configurationOf s rq ms = wordsOf (memberAt s ms) (edgeAt s rq ms) (unnamedAt s rq ms)
 
 -- ---- the whole
 
--- "all else zero": on a refusal, everything
-unfoldable pub refused : ModuleError → Resolution
-refused e = record { outcome = Refused e; configuration = record { members = replicate 4 0; reads = replicate 1024 0; unnamed = replicate 4 0 } }
+-- the outcome, and the lent words then
+pub record ResolveResult : Type 0 where
+  pub outcome : Outcome
+  pub words : List ℕ
 
-unfoldable pub told : List ℕ → List ℕ → Result State Refusal → Resolution
+-- "a refusal changes none"
+unfoldable pub refused : ModuleError → List ℕ → ResolveResult
+refused e ws = record { outcome = Refused e; words = ws }
+
+-- "words beyond stay unchanged"
+unfoldable pub told : List ℕ → List ℕ → List ℕ → Result State Refusal → ResolveResult
 unfolding refused errorOf configurationOf
-told s q (failed r) = refused (errorOf s q r)
-told s q (done st) = record { outcome = Accepted; configuration = configurationOf (modules s) (requestOf q) (st .resolved) }
+told s q ws (failed r) = refused (errorOf s q r) ws
+told s q ws (done st) = record { outcome = Accepted; words = configurationOf (modules s) (requestOf q) (st .resolved) ++ drop wordCount ws }
 
-unfoldable pub answered : List ℕ → List ℕ → SetAnswer → Resolution
+unfoldable pub answered : List ℕ → List ℕ → List ℕ → SetAnswer → ResolveResult
 unfolding refused told
-answered s q (Set.Refused e) = refused e
-answered s q (Set.Modules n) = told s q (Resolution.resolve (modules s) (requestOf q))
+answered s q ws (Set.Refused e) = refused e ws
+answered s q ws (Set.Modules n) = told s q ws (Resolution.resolve (modules s) (requestOf q))
 
--- the set and the request as bytes: refusals 1 to 3 first, then 5 to 7 as met
-unfoldable pub resolve : List ℕ → List ℕ → Resolution
-unfolding answered
-resolve s q = answered s q (checkInputs s q .answer)
+-- the set and the request as bytes, and the lent words: refusals 1 to 3 first, then 4, "before resolution", then 5 to 7 as met
+unfoldable pub resolve : List ℕ → List ℕ → List ℕ → ResolveResult
+unfolding answered withWords
+resolve s q ws = answered s q ws (withWords ws (checkInputs s q .answer))

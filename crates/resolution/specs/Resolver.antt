@@ -176,17 +176,17 @@ queueIn w i at (r ∷ rs) l = queueIn w i (at + length r) rs (pickLine (isOf (ki
 -- the array has a place for each position that may come: those that stand in it are different, and below count. Behind these
 -- places each position has its mark: 1 where it stands in the queue
 pub record Ready (count : ℕ) (order : List ℕ) (q : Queue) : Type 0 where
-  pub long : length order ≡ 512
-  pub few : count ≤ 256
+  pub long : length order ≡ 1024
+  pub few : count ≤ 512
   pub waits : q .head ≤ q .tail
   pub room : q .tail + countBelow (λ k. not (isOneOf k (take (q .tail) order))) count ≤ count
-  pub marked : (i : ℕ) → i < 256 → getD order (256 + i) 0 ≡ one (isOneOf i (take (q .tail) order))
+  pub marked : (i : ℕ) → i < 512 → getD order (512 + i) 0 ≡ one (isOneOf i (take (q .tail) order))
 
 -- an array for a queue that is empty
 pub record Fresh (count : ℕ) (order : List ℕ) : Type 0 where
-  pub long : length order ≡ 512
-  pub few : count ≤ 256
-  pub unmarked : (i : ℕ) → i < 256 → getD order (256 + i) 0 ≡ 0
+  pub long : length order ≡ 1024
+  pub few : count ≤ 512
+  pub unmarked : (i : ℕ) → i < 512 → getD order (512 + i) 0 ≡ 0
 
 -- a position that is wanted is below count
 unfoldable pub Within : ℕ → Wanted → Type 0

@@ -1,130 +1,111 @@
-// A configuration by value, over positions in the set: the members, who reads whom, and who reads the unnamed module.
+// The words of a configuration, which the host lends: the members, who reads whom, and who reads the unnamed module, by positions in
+// the set. Each function reads one of the three where it lies; `add_read` adds an edge. Words that are not there count as 0.
 ghost use mathlib.Core.Path.{_≡_};
-ghost use Prim.Native.Nat.{_<_};
+ghost use lib.ListN.{getD};
 ghost use Rattle.resolution.specs.Row.{size};
-ghost use Rattle.resolution.specs.Graph.{edge, Successors};
-ghost use Rattle.resolution.specs.Configuration.{Nothing, AddedRead, AddedMember, AddedUnnamed, PutRow, AddedRow};
+ghost use Rattle.resolution.specs.Configuration.{memberWords, memberBit, edgeBit, unnamedBit, withRead};
+ghost use Rattle.resolution.specs.Readability.{Holding};
 use crate::row::Row;
 use crate::row::count;
 use crate::row::empty;
-use crate::row::union;
-use crate::row::with;
 use crate::word::word_has;
 use crate::word::word_with;
 
-pub struct Configuration {
-    pub members: [u64; 4],
-    pub reads: [u64; 1024],
-    pub unnamed: [u64; 4],
+// Word `at`, 0 where there is none.
+fn word(words: &[u64], at: usize) -> u64
+    ensures { λ r. ⌜ r ≡ getD (now (words .entry)) at 0 ⌝ }
+{
+    if at < words.len() {
+        return words[at];
+    }
+    0
 }
 
-// No member and no read edge.
-pub fn nothing() -> Configuration
-    ensures { λ r. ⌜ Nothing r ⌝ }
+// i is a member.
+pub fn contains(words: &[u64], i: usize) -> bool
+    ensures { λ r. ⌜ r ≡ memberBit (now (words .entry)) i ⌝ }
 {
-    Configuration {
-        members: [0; 4],
-        reads: [0; 1024],
-        unnamed: [0; 4],
+    if i < 512 {
+        return word_has(word(words, i / 64), i % 64);
     }
+    false
 }
 
 // i reads j.
-pub fn reads(c: Configuration, i: usize, j: usize) -> bool
-    ensures { λ r. ⌜ r ≡ edge (c .reads) i j ⌝ }
+pub fn reads(words: &[u64], i: usize, j: usize) -> bool
+    ensures { λ r. ⌜ r ≡ edgeBit (now (words .entry)) i j ⌝ }
 {
-    if i < 256 {
-        if j < 256 {
-            let at = i * 4 + j / 64;
-            let words = c.reads;
-            return word_has(words[at], j % 64);
+    if i < 512 {
+        if j < 512 {
+            return word_has(word(words, 8 + (i * 9 + j / 64)), j % 64);
         }
     }
     false
 }
 
-// The configuration with the edge from i to j more. From 256 on there is no module, and nothing changes.
-pub fn add_read(c: Configuration, i: usize, j: usize) -> Configuration
-    ensures { λ r. ⌜ AddedRead c i j r ⌝ }
+// i reads the unnamed module.
+pub fn reads_unnamed(words: &[u64], i: usize) -> bool
+    ensures { λ r. ⌜ r ≡ unnamedBit (now (words .entry)) i ⌝ }
 {
-    if i < 256 {
-        if j < 256 {
-            let at = i * 4 + j / 64;
-            let mut next = c;
-            let w = next.reads[at];
-            next.reads[at] = word_with(w, j % 64);
-            return next;
-        }
+    if i < 512 {
+        return word_has(word(words, 8 + (i * 9 + 8)), 0);
     }
-    c
+    false
 }
 
-// The configuration with i among the members.
-pub fn add_member(c: Configuration, i: usize) -> Configuration
-    ensures { λ r. ⌜ AddedMember c i r ⌝ }
+// The modules that i reads, as a row.
+pub fn row_of(words: &[u64], i: usize) -> Row
+    ensures { λ r. ⌜ Holding (r .words) (edgeBit (now (words .entry)) i) ⌝ }
 {
-    let words = c.members;
-    let row = with(Row { words }, i);
-    let more = row.words;
-    let mut next = c;
-    next.members = more;
-    next
-}
-
-// The configuration with i among the readers of the unnamed module.
-pub fn add_unnamed(c: Configuration, i: usize) -> Configuration
-    ensures { λ r. ⌜ AddedUnnamed c i r ⌝ }
-{
-    let words = c.unnamed;
-    let row = with(Row { words }, i);
-    let more = row.words;
-    let mut next = c;
-    next.unnamed = more;
-    next
-}
-
-// The modules that i reads.
-pub fn row_of(c: Configuration, i: usize) -> Row
-    ensures { λ r. ⌜ Successors (c .reads) i (r .words) ⌝ }
-{
-    if i < 256 {
-        let all = c.reads;
-        let at = i * 4;
-        let words = [all[at], all[at + 1], all[at + 2], all[at + 3]];
-        return Row { words };
+    if i < 512 {
+        let at = 8 + i * 9;
+        let own = [
+            word(words, at),
+            word(words, at + 1),
+            word(words, at + 2),
+            word(words, at + 3),
+            word(words, at + 4),
+            word(words, at + 5),
+            word(words, at + 6),
+            word(words, at + 7),
+        ];
+        return Row { words: own };
     }
     empty()
 }
 
-// How many members there are.
-pub fn len(c: Configuration) -> usize
-    ensures { λ r. ⌜ r ≡ size (c .members) ⌝ }
+// One row's words, lent as a part of the words of a configuration, get position j. From 512 on there is none, and nothing changes.
+pub fn add_read(row: &mut [u64], j: usize)
+    ensures { λ _. ⌜ now (row .exit) ≡ withRead (now (row .entry)) j ⌝ }
 {
-    let words = c.members;
-    count(Row { words })
-}
-
-// The configuration with row i anew.
-fn put_row(c: Configuration, i: usize, row: Row) -> Configuration
-    requires { ⌜ i < 256 ⌝ }
-    ensures { λ r. ⌜ PutRow c i (row .words) r ⌝ }
-{
-    let words = row.words;
-    let at = i * 4;
-    let mut next = c;
-    next.reads[at] = words[0];
-    next.reads[at + 1] = words[1];
-    next.reads[at + 2] = words[2];
-    next.reads[at + 3] = words[3];
-    next
-}
-
-// The configuration with the edges from i to each position of the row more.
-pub fn add_row(c: Configuration, i: usize, row: Row) -> Configuration
-    ensures { λ r. ⌜ AddedRow c i (row .words) r ⌝ }
-{
-    if i < 256 {
-        return put_row(c, i, union(row_of(c, i), row));
+    if j < 512 {
+        let at = j / 64;
+        if at < row.len() {
+            row[at] = word_with(row[at], j % 64);
+        }
     }
-    c
+}
+
+// The members, as a row.
+pub fn members(words: &[u64]) -> Row
+    ensures { λ r. ⌜ Holding (r .words) (memberBit (now (words .entry))) ⌝ }
+{
+    let own = [
+        word(words, 0),
+        word(words, 1),
+        word(words, 2),
+        word(words, 3),
+        word(words, 4),
+        word(words, 5),
+        word(words, 6),
+        word(words, 7),
+    ];
+    Row { words: own }
+}
+
+// How many members there are.
+pub fn len(words: &[u64]) -> usize
+    ensures { λ r. ⌜ r ≡ size (memberWords (now (words .entry))) ⌝ }
+{
+    count(members(words))
 }

@@ -1,40 +1,24 @@
-// The steps around the resolver: the row of positions permitted and not hidden before it, the configuration or a refusal after it.
+// The steps around the resolver: the row of positions permitted and not hidden before it, the words of the configuration after it.
 ghost use mathlib.Core.Path.{_≡_};
-ghost use lib.ListN.{take};
+ghost use Prim.Native.Nat.{_≤_};
+ghost use lib.ListN.{length, take};
 ghost use Rattle.records.specs.Set.{checkSet, modules};
 ghost use Rattle.records.specs.declared.set.SetAnswer.the-variants.{Modules};
 ghost use Rattle.resolution.specs.Lookup.{Lookup};
 ghost use Rattle.resolution.specs.Positions.{isVisible};
 ghost use Rattle.resolution.specs.Readability.{Holding};
-ghost use Rattle.resolution.specs.Resolve.{refused};
-ghost use Rattle.resolution.specs.Configure.{MemberRow, AcceptedWith, Configured, PermittedRow};
-use crate::configuration::Configuration;
+ghost use Rattle.resolution.specs.Configuration.{wordCount};
+ghost use Rattle.resolution.specs.Configure.{MemberRow, Configured, PermittedRow};
 use crate::limits::is_limited;
+use crate::readability::put_row;
 use crate::readability::read_edges;
-use crate::resolve::Outcome;
-use crate::resolve::Resolution;
 use crate::row::Row;
 use crate::row::empty;
 use crate::row::has;
 use crate::row::with;
 use crate::visible::visible;
-use records::error::ModuleError;
 use records::finder::name_at;
 use records::request::is_permitted;
-
-// A refusal: no member and no read edge.
-pub fn refuse(e: ModuleError) -> Resolution
-    ensures { λ r. ⌜ r ≡ refused e ⌝ }
-{
-    Resolution {
-        outcome: Outcome::Refused(e),
-        configuration: Configuration {
-            members: [0; 4],
-            reads: [0; 1024],
-            unnamed: [0; 4],
-        },
-    }
-}
 
 // Those of the visible positions whose modules the request permits.
 fn permitted_among(set: &[u8], request: &[u8], starts: &[usize], count: usize, seen: Row) -> Row
@@ -69,7 +53,7 @@ pub fn permitted(set: &[u8], request: &[u8], starts: &[usize], count: usize, ind
     seen
 }
 
-// The first n positions of the order, as a row. Those from 256 on are left out.
+// The first n positions of the order, as a row. Those from 512 on are left out.
 fn member_row(order: &[usize], n: usize) -> Row
     ensures { λ r. ⌜ MemberRow (take n (now (order .entry))) (r .words) ⌝ }
 {
@@ -85,23 +69,7 @@ fn member_row(order: &[usize], n: usize) -> Row
     row
 }
 
-// The configuration of these members, read edges and readers of ALL-UNNAMED.
-fn accept(members: Row, reads: [u64; 1024], unnamed: Row) -> Resolution
-    ensures { λ r. ⌜ AcceptedWith (members .words) reads (unnamed .words) r ⌝ }
-{
-    let own = members.words;
-    let last = unnamed.words;
-    Resolution {
-        outcome: Outcome::Accepted,
-        configuration: Configuration {
-            members: own,
-            reads,
-            unnamed: last,
-        },
-    }
-}
-
-// The configuration of the modules at the first n positions of the order.
+// Writes the configuration of the modules at the first n positions of the order: the members, then the rows, each where it lies.
 pub fn configure(
     set: &[u8],
     request: &[u8],
@@ -110,13 +78,22 @@ pub fn configure(
     index: &[usize],
     order: &[usize],
     n: usize,
-) -> Resolution
+    words: &mut [u64],
+)
     requires { ⌜ checkSet (now set) ≡ record { answer = Modules count; starts = now starts } ⌝ }
     requires { ⌜ Lookup (now set) (now starts) count (now index) ⌝ }
-    ensures { λ r. ⌜ Configured (now (set .entry)) (now (request .entry)) count (take n (now (order .entry))) r ⌝ }
+    requires { ⌜ wordCount ≤ length (now words) ⌝ }
+    ensures { λ _. ⌜ Configured (now (set .entry)) (now (request .entry)) count (take n (now (order .entry))) (now (words .entry)) (now (words .exit)) ⌝ }
 {
     let members = member_row(order, n);
-    let mut reads = [0u64; 1024];
-    let unnamed = read_edges(set, request, starts, count, index, members, &mut reads);
-    accept(members, reads, unnamed)
+    put_row(words, 0, members);
+    read_edges(
+        set,
+        request,
+        starts,
+        count,
+        index,
+        members,
+        &mut words[8..4616],
+    );
 }

@@ -2,29 +2,49 @@
 ghost use mathlib.Core.Path.{_≡_};
 ghost use mathlib.Core.Bool.{false, _||_};
 ghost use mathlib.Core.List.{[], _∷_, map};
+ghost use Prim.Native.Nat.{_<_};
 ghost use lib.ListN.{length};
 ghost use Rattle.records.specs.Name.{nameOf};
 ghost use Rattle.records.specs.Record.{bodies};
 ghost use Rattle.resolution.specs.Lists.{any};
-ghost use Rattle.resolution.specs.Filter.{hasBits, isMarked, BitsSet, MarkedAll};
+ghost use Rattle.resolution.specs.Row.{holds};
+ghost use Rattle.resolution.specs.Filter.{hasBits, isMarked, BitSet, BitsSet, MarkedAll};
 use crate::hash::hash;
-use crate::reach::edge_at;
-use crate::reach::set_edge;
+use crate::word::word_has;
+use crate::word::word_with;
 use records::bytes::part;
 use records::name::name_of;
 use records::record::Cursor;
 use records::record::Kind;
 use records::record::Next;
 
+// Bit a.
+fn bit_at(filter: &[u64], a: usize) -> bool
+    requires { ⌜ length (now filter) ≡ 1024 ⌝ }
+    requires { ⌜ a < 65536 ⌝ }
+    ensures { λ r. ⌜ r ≡ holds (now (filter .entry)) a ⌝ }
+{
+    let at = a / 64;
+    word_has(filter[at], a % 64)
+}
+
+// Sets bit a.
+fn set_bit(filter: &mut [u64], a: usize)
+    requires { ⌜ length (now filter) ≡ 1024 ⌝ }
+    requires { ⌜ a < 65536 ⌝ }
+    ensures { λ _. ⌜ BitSet (now (filter .entry)) a (now (filter .exit)) ⌝ }
+{
+    let at = a / 64;
+    filter[at] = word_with(filter[at], a % 64);
+}
+
 // Whether both bits of a name's number are set.
 fn has_bits(filter: &[u64], h: usize) -> bool
     requires { ⌜ length (now filter) ≡ 1024 ⌝ }
     ensures { λ r. ⌜ r ≡ hasBits (now (filter .entry)) h ⌝ }
 {
-    let a = h % 65536;
-    if edge_at(filter, a / 256, a % 256) {
-        let b = h / 65536 % 65536;
-        return edge_at(filter, b / 256, b % 256);
+    if bit_at(filter, h % 65536) {
+        return bit_at(filter, h / 65536 % 65536);
     }
     false
 }
@@ -34,10 +54,8 @@ fn set_bits(filter: &mut [u64], h: usize)
     requires { ⌜ length (now filter) ≡ 1024 ⌝ }
     ensures { λ _. ⌜ BitsSet (now (filter .entry)) h (now (filter .exit)) ⌝ }
 {
-    let a = h % 65536;
-    set_edge(filter, a / 256, a % 256);
-    let b = h / 65536 % 65536;
-    set_edge(filter, b / 256, b % 256);
+    set_bit(filter, h % 65536);
+    set_bit(filter, h / 65536 % 65536);
 }
 
 // Sets both bits of the name; whether they were set.

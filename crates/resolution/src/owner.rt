@@ -5,9 +5,7 @@ ghost use Rattle.records.specs.Set.{blockAt};
 ghost use Rattle.resolution.specs.Lookup.{Lookup, ownsBy};
 ghost use Rattle.resolution.specs.PackageOwner.{findModuleForPackage};
 ghost use Rattle.resolution.specs.Readability.{tableNames};
-use crate::configuration::Configuration;
-use crate::row::Row;
-use crate::row::has;
+use crate::configuration::contains;
 use records::descriptor::has_package;
 use records::descriptor::name;
 use records::error::ModuleError;
@@ -15,6 +13,7 @@ use records::finder::is_at;
 use records::set::SetAnswer;
 use records::set::block;
 use records::set::check_set_with;
+use records::sorted::INDEX_LENGTH;
 use records::sorted::find_in;
 
 // A module's position in its set.
@@ -30,14 +29,14 @@ fn owns(
     starts: &[usize],
     n: usize,
     index: &[usize],
-    members: Row,
+    words: &[u64],
     i: usize,
     pkg: &[u8],
 ) -> bool
     requires { ⌜ Lookup (now set) (now starts) n (now index) ⌝ }
-    ensures { λ r. ⌜ r ≡ ownsBy (tableNames (now (set .entry)) (now (starts .entry)) n) (members .words) (now (pkg .entry)) i (descriptorOf (blockAt (now (set .entry)) (now (starts .entry)) i)) ⌝ }
+    ensures { λ r. ⌜ r ≡ ownsBy (tableNames (now (set .entry)) (now (starts .entry)) n) (now (words .entry)) (now (pkg .entry)) i (descriptorOf (blockAt (now (set .entry)) (now (starts .entry)) i)) ⌝ }
 {
-    if has(members, i) {
+    if contains(words, i) {
         let b = block(set, starts, i);
         if has_package(b, pkg) {
             return is_at(find_in(set, starts, n, index, name(b)), i);
@@ -46,23 +45,24 @@ fn owns(
     false
 }
 
-// The lowest position of a member that has the package. The set is checked first; positions without a module, and hidden ones, are
-// passed over.
-pub fn find_module_for_package(set: &[u8], configuration: Configuration, pkg: &[u8]) -> Owner
-    ensures { λ r. ⌜ r ≡ findModuleForPackage (now (set .entry)) configuration (now (pkg .entry)) ⌝ }
+// The lowest position of a member that has the package. The set is checked first, then the number of words; positions without a
+// module, and hidden ones, are passed over.
+pub fn find_module_for_package(set: &[u8], words: &[u64], pkg: &[u8]) -> Owner
+    ensures { λ r. ⌜ r ≡ findModuleForPackage (now (set .entry)) (now (words .entry)) (now (pkg .entry)) ⌝ }
 {
-    let mut index = [0usize; 1026];
+    let mut index = [0usize; INDEX_LENGTH];
     let checked = check_set_with(set, &mut index);
     let answer = checked.answer;
     match answer {
         SetAnswer::Refused(e) => Owner::Refused(e),
         SetAnswer::Modules(n) => {
+            if words.len() < 4616 {
+                return Owner::Refused(ModuleError::OutputTooShort(4616));
+            }
             let starts = checked.starts;
-            let words = configuration.members;
-            let members = Row { words };
             let mut i: usize = 0;
             while i < n {
-                if owns(set, &starts, n, &index, members, i, pkg) {
+                if owns(set, &starts, n, &index, words, i, pkg) {
                     return Owner::At(i);
                 }
                 i += 1;

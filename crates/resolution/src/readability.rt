@@ -1,9 +1,10 @@
 // Who reads whom among the members: the read edges, over positions in the set.
 ghost use mathlib.Core.Path.{_≡_};
 ghost use mathlib.Core.Bool.{true, false};
-ghost use Prim.Native.Nat.{_<_};
-ghost use lib.ListN.{length};
+ghost use Prim.Native.Nat.{_+_, _≤_, _<_};
+ghost use lib.ListN.{length, replicate};
 ghost use Rattle.records.specs.Name.{javaBase};
+ghost use Rattle.records.specs.Output.{written};
 ghost use Rattle.records.specs.Descriptor.{descriptorOf, requirementOf};
 ghost use Rattle.records.specs.Request.{readOf, requestOf};
 ghost use Rattle.records.specs.Set.{checkSet, blockAt};
@@ -13,9 +14,10 @@ ghost use Rattle.resolution.specs.Row.{holds};
 ghost use Rattle.resolution.specs.Graph.{Successors};
 ghost use Rattle.resolution.specs.Lookup.{Lookup};
 ghost use Rattle.records.specs.Finder.{isAt};
-ghost use Rattle.resolution.specs.Readability.{tableNames, memberOf, isRequired, requiredAt, directFrom, othersAt, transitiveAt, unnamedFrom, edgeFrom, Below, ModuleReads, WithMore, Holding, WithEdges, RowSet, TransitiveGraph, DirectRows, ReadRows, ReadAdded, ReadsAdded, ReadEdges};
+ghost use Rattle.resolution.specs.Readability.{tableNames, memberOf, isRequired, requiredAt, directAt, directFrom, baseOf, edgesOf, othersAt, unnamedFrom, edgeFrom, Below, ModuleReads, WithMore, Holding, WithEdges, WithUnnamed, RowSet, TransitiveGraph, DirectRows, ReadRows, ReadAdded, ReadsAdded, ReadEdges};
+use crate::configuration::add_read;
+use crate::reach::next_in;
 use crate::reach::reachable_from;
-use crate::reach::set_edge;
 use crate::row::Row;
 use crate::row::empty;
 use crate::row::has;
@@ -34,12 +36,6 @@ use records::record::Kind;
 use records::record::Next;
 use records::set::block;
 use records::sorted::find_in;
-
-// The members that a block requires, and of these the ones that it requires transitively.
-pub struct Required {
-    pub all: Row,
-    pub transitive: Row,
-}
 
 // The member of this name.
 fn member(
@@ -64,17 +60,6 @@ fn member(
     }
 }
 
-// The row with what is found more.
-fn with_found(row: Row, found: Found) -> Row
-    requires { ⌜ Below found ⌝ }
-    ensures { λ r. ⌜ WithMore (row .words) (isAt found) (r .words) ⌝ }
-{
-    match found {
-        Found::At(i) => with(row, i),
-        Found::Nothing => row,
-    }
-}
-
 // The member of a requirement's name. java.base is required by nearly every module, and is looked up already.
 fn required_member(
     set: &[u8],
@@ -95,8 +80,9 @@ fn required_member(
     member(set, starts, count, index, members, name)
 }
 
-// The rows with the member of one requirement more. It is looked up once for both.
-fn with_required(
+// The edges of one requirement of the module at p: to the member of its name, in the graph only if it is transitive. It is looked up
+// once for both.
+fn set_requirement(
     set: &[u8],
     starts: &[usize],
     count: usize,
@@ -104,27 +90,27 @@ fn with_required(
     members: Row,
     base: Found,
     body: &[u8],
-    rows: Required,
-) -> Required
+    p: usize,
+    graph: &mut [u64],
+    rows: &mut [u64],
+)
     requires { ⌜ Lookup (now set) (now starts) count (now index) ⌝ }
     requires { ⌜ base ≡ memberOf (members .words) (findName (tableNames (now set) (now starts) count) javaBase 0) ⌝ }
-    ensures { λ r. ⌜ WithMore (rows .all .words) (isRequired (tableNames (now (set .entry)) (now (starts .entry)) count) (members .words) false (requirementOf (now (body .entry)))) (r .all .words) ⌝ }
-    ensures { λ r. ⌜ WithMore (rows .transitive .words) (isRequired (tableNames (now (set .entry)) (now (starts .entry)) count) (members .words) true (requirementOf (now (body .entry)))) (r .transitive .words) ⌝ }
+    requires { ⌜ p < 512 ⌝ }
+    requires { ⌜ length (now graph) ≡ 4608 ⌝ }
+    requires { ⌜ length (now rows) ≡ 4608 ⌝ }
+    ensures { λ _. ⌜ WithEdges (now (graph .entry)) (edgesOf p (isRequired (tableNames (now (set .entry)) (now (starts .entry)) count) (members .words) true (requirementOf (now (body .entry))))) (now (graph .exit)) ⌝ }
+    ensures { λ _. ⌜ WithEdges (now (rows .entry)) (edgesOf p (isRequired (tableNames (now (set .entry)) (now (starts .entry)) count) (members .words) false (requirementOf (now (body .entry))))) (now (rows .exit)) ⌝ }
 {
     let found = required_member(set, starts, count, index, members, base, required(body));
-    let all = with_found(rows.all, found);
-    let transitive = rows.transitive;
+    set_edge(p, found, rows);
     if is_transitive(body) {
-        return Required {
-            all,
-            transitive: with_found(transitive, found),
-        };
+        set_edge(p, found, graph);
     }
-    Required { all, transitive }
 }
 
-// The members that a block requires.
-fn required_members(
+// The edges of all requirements of the module at p, which has this block.
+fn set_requirements(
     set: &[u8],
     starts: &[usize],
     count: usize,
@@ -132,34 +118,60 @@ fn required_members(
     members: Row,
     base: Found,
     block: &[u8],
-) -> Required
+    p: usize,
+    graph: &mut [u64],
+    rows: &mut [u64],
+)
     requires { ⌜ Lookup (now set) (now starts) count (now index) ⌝ }
     requires { ⌜ base ≡ memberOf (members .words) (findName (tableNames (now set) (now starts) count) javaBase 0) ⌝ }
-    ensures { λ r. ⌜ Holding (r .all .words) (requiredAt (tableNames (now (set .entry)) (now (starts .entry)) count) (members .words) false (descriptorOf (now (block .entry)) .requires)) ⌝ }
-    ensures { λ r. ⌜ Holding (r .transitive .words) (requiredAt (tableNames (now (set .entry)) (now (starts .entry)) count) (members .words) true (descriptorOf (now (block .entry)) .requires)) ⌝ }
+    requires { ⌜ p < 512 ⌝ }
+    requires { ⌜ length (now graph) ≡ 4608 ⌝ }
+    requires { ⌜ length (now rows) ≡ 4608 ⌝ }
+    ensures { λ _. ⌜ WithEdges (now (graph .entry)) (edgesOf p (requiredAt (tableNames (now (set .entry)) (now (starts .entry)) count) (members .words) true (descriptorOf (now (block .entry)) .requires))) (now (graph .exit)) ⌝ }
+    ensures { λ _. ⌜ WithEdges (now (rows .entry)) (edgesOf p (requiredAt (tableNames (now (set .entry)) (now (starts .entry)) count) (members .words) false (descriptorOf (now (block .entry)) .requires))) (now (rows .exit)) ⌝ }
 {
-    let mut rows = Required {
-        all: empty(),
-        transitive: empty(),
-    };
     let mut c = Cursor { at: 0 };
     loop {
         match c.next(block, Kind::Requires) {
             Next::Body { start, len, next } => {
                 let body = part(block, start, len);
                 c = next;
-                rows = with_required(set, starts, count, index, members, base, body, rows);
+                set_requirement(
+                    set,
+                    starts,
+                    count,
+                    index,
+                    members,
+                    base,
+                    body,
+                    p,
+                    graph,
+                    rows,
+                );
             }
             Next::Nothing => {
-                return rows;
+                return;
             }
         }
     }
 }
 
-// What the module at p reads directly, that is the members that it requires and java.base (not for itself), and what it requires
-// transitively; nothing, where it is no member.
-fn direct_rows(
+// The edge to java.base of the module at p, which has this block (not for java.base itself).
+fn set_base(block: &[u8], base: Found, p: usize, rows: &mut [u64])
+    requires { ⌜ Below base ⌝ }
+    requires { ⌜ p < 512 ⌝ }
+    requires { ⌜ length (now rows) ≡ 4608 ⌝ }
+    ensures { λ _. ⌜ WithEdges (now (rows .entry)) (edgesOf p (baseOf (descriptorOf (now (block .entry))) base)) (now (rows .exit)) ⌝ }
+{
+    if same(name(block), b"java.base") {
+        return;
+    }
+    set_edge(p, base, rows);
+}
+
+// What the module at p reads directly, that is the members that it requires and java.base (not for itself), and in the graph what it
+// requires transitively.
+fn set_direct_row(
     set: &[u8],
     starts: &[usize],
     count: usize,
@@ -167,28 +179,20 @@ fn direct_rows(
     members: Row,
     base: Found,
     p: usize,
-) -> Required
+    graph: &mut [u64],
+    rows: &mut [u64],
+)
     requires { ⌜ Lookup (now set) (now starts) count (now index) ⌝ }
     requires { ⌜ base ≡ memberOf (members .words) (findName (tableNames (now set) (now starts) count) javaBase 0) ⌝ }
-    ensures { λ r. ⌜ Holding (r .all .words) (directFrom (tableNames (now (set .entry)) (now (starts .entry)) count) (members .words) (holds (members .words) p) (descriptorOf (blockAt (now (set .entry)) (now (starts .entry)) p))) ⌝ }
-    ensures { λ r. ⌜ Holding (r .transitive .words) (transitiveAt (tableNames (now (set .entry)) (now (starts .entry)) count) (members .words) (holds (members .words) p) (descriptorOf (blockAt (now (set .entry)) (now (starts .entry)) p))) ⌝ }
+    requires { ⌜ p < 512 ⌝ }
+    requires { ⌜ length (now graph) ≡ 4608 ⌝ }
+    requires { ⌜ length (now rows) ≡ 4608 ⌝ }
+    ensures { λ _. ⌜ WithEdges (now (graph .entry)) (edgesOf p (requiredAt (tableNames (now (set .entry)) (now (starts .entry)) count) (members .words) true (descriptorOf (blockAt (now (set .entry)) (now (starts .entry)) p) .requires))) (now (graph .exit)) ⌝ }
+    ensures { λ _. ⌜ WithEdges (now (rows .entry)) (edgesOf p (directAt (tableNames (now (set .entry)) (now (starts .entry)) count) (members .words) (descriptorOf (blockAt (now (set .entry)) (now (starts .entry)) p)))) (now (rows .exit)) ⌝ }
 {
-    if has(members, p) {
-        let b = block(set, starts, p);
-        let rows = required_members(set, starts, count, index, members, base, b);
-        if same(name(b), b"java.base") {
-            return rows;
-        }
-        let transitive = rows.transitive;
-        return Required {
-            all: with_found(rows.all, base),
-            transitive,
-        };
-    }
-    Required {
-        all: empty(),
-        transitive: empty(),
-    }
+    let b = block(set, starts, p);
+    set_requirements(set, starts, count, index, members, base, b, p, graph, rows);
+    set_base(b, base, p, rows);
 }
 
 // The row with all members but p more.
@@ -197,7 +201,7 @@ fn with_others(row: Row, members: Row, p: usize) -> Row
 {
     let mut out = row;
     let mut k: usize = 0;
-    while k < 256 {
+    while k < 512 {
         let j = k;
         k += 1;
         if j != p {
@@ -219,7 +223,7 @@ fn read_row(
     direct: Row,
     p: usize,
 ) -> Row
-    requires { ⌜ length (now graph) ≡ 1024 ⌝ }
+    requires { ⌜ length (now graph) ≡ 4608 ⌝ }
     requires { ⌜ Holding (direct .words) (directFrom (tableNames (now set) (now starts) count) (members .words) (holds (members .words) p) (descriptorOf (blockAt (now set) (now starts) p))) ⌝ }
     ensures { λ r. ⌜ ModuleReads (tableNames (now (set .entry)) (now (starts .entry)) count) (members .words) (now (graph .entry)) (descriptorOf (blockAt (now (set .entry)) (now (starts .entry)) p)) p (holds (r .words)) ⌝ }
 {
@@ -235,30 +239,47 @@ fn read_row(
 
 // Row i of the graph.
 fn row_at(g: &[u64], i: usize) -> Row
-    requires { ⌜ length (now g) ≡ 1024 ⌝ }
-    requires { ⌜ i < 256 ⌝ }
+    requires { ⌜ length (now g) ≡ 4608 ⌝ }
+    requires { ⌜ i < 512 ⌝ }
     ensures { λ r. ⌜ Successors (now (g .entry)) i (r .words) ⌝ }
 {
-    let at = i * 4;
-    let words = [g[at], g[at + 1], g[at + 2], g[at + 3]];
+    let at = i * 9;
+    let words = [
+        g[at],
+        g[at + 1],
+        g[at + 2],
+        g[at + 3],
+        g[at + 4],
+        g[at + 5],
+        g[at + 6],
+        g[at + 7],
+    ];
     Row { words }
 }
 
-// Row i of the graph anew.
-fn set_row(g: &mut [u64], i: usize, row: Row)
-    requires { ⌜ length (now g) ≡ 1024 ⌝ }
-    requires { ⌜ i < 256 ⌝ }
-    ensures { λ _. ⌜ RowSet (now (g .entry)) i (row .words) (now (g .exit)) ⌝ }
+// Writes the eight words of a row at `at`.
+pub fn put_row(words: &mut [u64], at: usize, row: Row)
+    requires { ⌜ at + 8 ≤ length (now words) ⌝ }
+    ensures { λ _. ⌜ now (words .exit) ≡ written (now (words .entry)) at (row .words) ⌝ }
 {
-    let words = row.words;
-    let at = i * 4;
-    g[at] = words[0];
-    g[at + 1] = words[1];
-    g[at + 2] = words[2];
-    g[at + 3] = words[3];
+    let x = row.words;
+    let mut k: usize = 0;
+    while k < 8 {
+        words[at + k] = x[k];
+        k += 1;
+    }
 }
 
-// The graph of the transitive requirements between members, and each row of `reads` anew: what that module reads directly.
+// The edges of row i anew.
+fn set_row(g: &mut [u64], i: usize, row: Row)
+    requires { ⌜ length (now g) ≡ 4608 ⌝ }
+    requires { ⌜ i < 512 ⌝ }
+    ensures { λ _. ⌜ RowSet (now (g .entry)) i (row .words) (now (g .exit)) ⌝ }
+{
+    put_row(g, i * 9, row);
+}
+
+// The graph of the transitive requirements between members, and in `rows` what each member reads directly. All words are 0 before.
 // java.base is looked up once for all.
 fn set_direct(
     set: &[u8],
@@ -267,101 +288,124 @@ fn set_direct(
     index: &[usize],
     members: Row,
     graph: &mut [u64],
-    reads: &mut [u64],
+    rows: &mut [u64],
 )
     requires { ⌜ Lookup (now set) (now starts) count (now index) ⌝ }
-    requires { ⌜ length (now graph) ≡ 1024 ⌝ }
-    requires { ⌜ length (now reads) ≡ 1024 ⌝ }
+    requires { ⌜ now graph ≡ replicate 4608 0 ⌝ }
+    requires { ⌜ now rows ≡ replicate 4608 0 ⌝ }
     ensures { λ _. ⌜ TransitiveGraph (now (set .entry)) (now (starts .entry)) count (members .words) (now (graph .exit)) ⌝ }
-    ensures { λ _. ⌜ DirectRows (now (set .entry)) (now (starts .entry)) count (members .words) (now (reads .exit)) ⌝ }
+    ensures { λ _. ⌜ DirectRows (now (set .entry)) (now (starts .entry)) count (members .words) (now (rows .exit)) ⌝ }
 {
     let base = member(set, starts, count, index, members, b"java.base");
     let mut k: usize = 0;
-    while k < 256 {
-        let rows = direct_rows(set, starts, count, index, members, base, k);
-        set_row(graph, k, rows.transitive);
-        set_row(reads, k, rows.all);
-        k += 1;
+    while k < 512 {
+        let p = next_in(members, k);
+        if 512 <= p {
+            return;
+        }
+        k = p + 1;
+        set_direct_row(set, starts, count, index, members, base, p, graph, rows);
     }
 }
 
-// Each row of `reads` from what that module reads directly to all that it reads without AR.
+// The row of each member, from what it reads directly to all that it reads without AR.
 fn set_reads(
     set: &[u8],
     starts: &[usize],
     count: usize,
     members: Row,
     graph: &[u64],
-    reads: &mut [u64],
+    rows: &mut [u64],
 )
-    requires { ⌜ length (now graph) ≡ 1024 ⌝ }
-    requires { ⌜ length (now reads) ≡ 1024 ⌝ }
-    requires { ⌜ DirectRows (now set) (now starts) count (members .words) (now reads) ⌝ }
-    ensures { λ _. ⌜ ReadRows (now (set .entry)) (now (starts .entry)) count (members .words) (now (graph .entry)) (now (reads .exit)) ⌝ }
+    requires { ⌜ length (now graph) ≡ 4608 ⌝ }
+    requires { ⌜ length (now rows) ≡ 4608 ⌝ }
+    requires { ⌜ DirectRows (now set) (now starts) count (members .words) (now rows) ⌝ }
+    ensures { λ _. ⌜ ReadRows (now (set .entry)) (now (starts .entry)) count (members .words) (now (graph .entry)) (now (rows .exit)) ⌝ }
 {
     let mut k: usize = 0;
-    while k < 256 {
-        let direct = row_at(reads, k);
-        let row = read_row(set, starts, count, members, graph, direct, k);
-        set_row(reads, k, row);
-        k += 1;
+    while k < 512 {
+        let p = next_in(members, k);
+        if 512 <= p {
+            return;
+        }
+        k = p + 1;
+        let direct = row_at(rows, p);
+        let row = read_row(set, starts, count, members, graph, direct, p);
+        set_row(rows, p, row);
     }
 }
 
-// The row with the source of an AR to ALL-UNNAMED more.
-fn with_unnamed(source: Found, target: &[u8], row: Row) -> Row
+// The edge of an AR to ALL-UNNAMED: the ninth word of its source's row.
+fn set_unnamed(source: Found, target: &[u8], rows: &mut [u64])
     requires { ⌜ Below source ⌝ }
-    ensures { λ r. ⌜ WithMore (row .words) (unnamedFrom source (now (target .entry))) (r .words) ⌝ }
+    requires { ⌜ length (now rows) ≡ 4608 ⌝ }
+    ensures { λ _. ⌜ WithUnnamed (now (rows .entry)) (unnamedFrom source (now (target .entry))) (now (rows .exit)) ⌝ }
 {
     if same(target, b"ALL-UNNAMED") {
-        return with_found(row, source);
+        match source {
+            Found::At(i) => {
+                let at = i * 9 + 8;
+                rows[at] = 1;
+            }
+            Found::Nothing => {}
+        }
     }
-    row
 }
 
-// The edge of an AR.
-fn set_read(source: Found, target: Found, reads: &mut [u64])
-    requires { ⌜ Below source ⌝ }
+// The edge from i to what is found: the row of i is lent.
+fn set_edge(i: usize, target: Found, rows: &mut [u64])
+    requires { ⌜ i < 512 ⌝ }
     requires { ⌜ Below target ⌝ }
-    requires { ⌜ length (now reads) ≡ 1024 ⌝ }
-    ensures { λ _. ⌜ WithEdges (now (reads .entry)) (edgeFrom source target) (now (reads .exit)) ⌝ }
+    requires { ⌜ length (now rows) ≡ 4608 ⌝ }
+    ensures { λ _. ⌜ WithEdges (now (rows .entry)) (edgesOf i (isAt target)) (now (rows .exit)) ⌝ }
 {
-    match source {
-        Found::At(i) => {
-            match target {
-                Found::At(j) => {
-                    set_edge(reads, i, j);
-                }
-                Found::Nothing => {}
-            }
+    match target {
+        Found::At(j) => {
+            let at = i * 9;
+            let end = at + 8;
+            add_read(&mut rows[at..end], j);
         }
         Found::Nothing => {}
     }
 }
 
-// The edge of an AR is added; the row with its source more, if it leads to ALL-UNNAMED.
-fn add_read(
+// The edge of an AR.
+fn set_read(source: Found, target: Found, rows: &mut [u64])
+    requires { ⌜ Below source ⌝ }
+    requires { ⌜ Below target ⌝ }
+    requires { ⌜ length (now rows) ≡ 4608 ⌝ }
+    ensures { λ _. ⌜ WithEdges (now (rows .entry)) (edgeFrom source target) (now (rows .exit)) ⌝ }
+{
+    match source {
+        Found::At(i) => {
+            set_edge(i, target, rows);
+        }
+        Found::Nothing => {}
+    }
+}
+
+// The edge of one AR is added.
+fn add_override(
     set: &[u8],
     starts: &[usize],
     count: usize,
     index: &[usize],
     members: Row,
     body: &[u8],
-    unnamed: Row,
-    reads: &mut [u64],
-) -> Row
+    rows: &mut [u64],
+)
     requires { ⌜ Lookup (now set) (now starts) count (now index) ⌝ }
-    requires { ⌜ length (now reads) ≡ 1024 ⌝ }
-    ensures { λ r. ⌜ ReadAdded (tableNames (now (set .entry)) (now (starts .entry)) count) (members .words) (readOf (now (body .entry))) (now (reads .entry)) (now (reads .exit)) (unnamed .words) (r .words) ⌝ }
+    requires { ⌜ length (now rows) ≡ 4608 ⌝ }
+    ensures { λ _. ⌜ ReadAdded (tableNames (now (set .entry)) (now (starts .entry)) count) (members .words) (readOf (now (body .entry))) (now (rows .entry)) (now (rows .exit)) ⌝ }
 {
     let target = name_of(after_name(body));
     let from = member(set, starts, count, index, members, name_of(body));
     let to = member(set, starts, count, index, members, target);
-    set_read(from, to, reads);
-    with_unnamed(from, target, unnamed)
+    set_read(from, to, rows);
+    set_unnamed(from, target, rows);
 }
 
-// The edges of the request's AR are added; the members with an AR to ALL-UNNAMED.
+// The edges of the request's AR are added.
 fn add_reads(
     set: &[u8],
     request: &[u8],
@@ -369,29 +413,40 @@ fn add_reads(
     count: usize,
     index: &[usize],
     members: Row,
-    reads: &mut [u64],
-) -> Row
+    rows: &mut [u64],
+)
     requires { ⌜ Lookup (now set) (now starts) count (now index) ⌝ }
-    requires { ⌜ length (now reads) ≡ 1024 ⌝ }
-    ensures { λ r. ⌜ ReadsAdded (tableNames (now (set .entry)) (now (starts .entry)) count) (members .words) (requestOf (now (request .entry)) .addReads) (now (reads .entry)) (now (reads .exit)) (r .words) ⌝ }
+    requires { ⌜ length (now rows) ≡ 4608 ⌝ }
+    ensures { λ _. ⌜ ReadsAdded (tableNames (now (set .entry)) (now (starts .entry)) count) (members .words) (requestOf (now (request .entry)) .addReads) (now (rows .entry)) (now (rows .exit)) ⌝ }
 {
-    let mut unnamed = empty();
     let mut c = Cursor { at: 0 };
     loop {
         match c.next(request, Kind::AddReads) {
             Next::Body { start, len, next } => {
                 let body = part(request, start, len);
                 c = next;
-                unnamed = add_read(set, starts, count, index, members, body, unnamed, reads);
+                add_override(set, starts, count, index, members, body, rows);
             }
             Next::Nothing => {
-                return unnamed;
+                return;
             }
         }
     }
 }
 
-// The read edges of the members; the row of those that read ALL-UNNAMED.
+// Every word 0.
+fn clear(rows: &mut [u64])
+    requires { ⌜ length (now rows) ≡ 4608 ⌝ }
+    ensures { λ _. ⌜ now (rows .exit) ≡ replicate 4608 0 ⌝ }
+{
+    let mut k: usize = 0;
+    while k < 4608 {
+        rows[k] = 0;
+        k += 1;
+    }
+}
+
+// The rows of the members anew, where they lie: cleared once, then what each member reads. All other rows are 0.
 pub fn read_edges(
     set: &[u8],
     request: &[u8],
@@ -399,15 +454,16 @@ pub fn read_edges(
     count: usize,
     index: &[usize],
     members: Row,
-    reads: &mut [u64],
-) -> Row
+    rows: &mut [u64],
+)
     requires { ⌜ checkSet (now set) ≡ record { answer = Modules count; starts = now starts } ⌝ }
     requires { ⌜ Lookup (now set) (now starts) count (now index) ⌝ }
-    requires { ⌜ length (now reads) ≡ 1024 ⌝ }
-    ensures { λ r. ⌜ ReadEdges (now (set .entry)) (now (request .entry)) (members .words) (now (reads .exit)) (r .words) ⌝ }
+    requires { ⌜ length (now rows) ≡ 4608 ⌝ }
+    ensures { λ _. ⌜ ReadEdges (now (set .entry)) (now (request .entry)) (members .words) (now (rows .exit)) ⌝ }
 {
-    let mut graph = [0u64; 1024];
-    set_direct(set, starts, count, index, members, &mut graph, reads);
-    set_reads(set, starts, count, members, &graph, reads);
-    add_reads(set, request, starts, count, index, members, reads)
+    let mut graph = [0u64; 4608];
+    clear(rows);
+    set_direct(set, starts, count, index, members, &mut graph, rows);
+    set_reads(set, starts, count, members, &graph, rows);
+    add_reads(set, request, starts, count, index, members, rows);
 }

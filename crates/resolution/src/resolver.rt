@@ -39,8 +39,8 @@ pub enum Wanted {
     Refuse(ModuleError),
 }
 
-// An array of 512 numbers goes with it. Of its first half the positions before head are resolved, in order, and those from there to
-// tail wait; entry 256 + i is 1 where position i is one of them, else 0.
+// An array of 1024 numbers goes with it. Of its first half the positions before head are resolved, in order, and those from there to
+// tail wait; entry 512 + i is 1 where position i is one of them, else 0.
 pub struct Queue {
     pub head: usize,
     pub tail: usize,
@@ -52,7 +52,7 @@ pub struct Queue {
 // tables of names tell which absent names are permitted, and in a round which were met before the rounds.
 pub struct Phase {
     pub count: usize,
-    pub permitted: [u64; 4],
+    pub permitted: [u64; 8],
     pub in_round: bool,
     pub before: usize,
     pub statics: bool,
@@ -66,7 +66,7 @@ pub fn is_queued(order: &[usize], q: Queue, count: usize, i: usize) -> bool
     requires { ⌜ i < count ⌝ }
     ensures { λ r. ⌜ r ≡ isOneOf i (take (q .tail) (now (order .entry))) ⌝ }
 {
-    order[256 + i] == 1
+    order[512 + i] == 1
 }
 
 // Position i comes to the end and is marked, unless it is there.
@@ -80,7 +80,7 @@ fn push(order: &mut [usize], q: Queue, count: usize, i: usize) -> Queue
     }
     let at = q.tail;
     order[at] = i;
-    order[256 + i] = 1;
+    order[512 + i] = 1;
     let head = q.head;
     let halt = q.halt;
     Queue {

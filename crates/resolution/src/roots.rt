@@ -131,7 +131,7 @@ fn resolve_first(
 
 // The modules resolved, in order: the first `queue.tail` positions.
 pub struct Ordered {
-    pub order: [usize; 512],
+    pub order: [usize; 1024],
     pub queue: Queue,
 }
 
@@ -149,7 +149,7 @@ fn resolve_from(
     requires { ⌜ length (now set) ≤ 65535 ⌝ }
     ensures { λ r. ⌜ lineAt (r .order) (r .queue) ≡ resolveAt (inputsOf (now (set .entry)) (now (request .entry)) (now (starts .entry)) (now (starts .entry)) phase) ⌝ }
 {
-    let mut order = [0usize; 512];
+    let mut order = [0usize; 1024];
     let mut packages = [0u64; 1024];
     let first = resolve_first(
         set,

@@ -97,7 +97,7 @@ fn rounds(
     line
 }
 
-// The same, with a table for the services of a round. A set of up to 4,096 bytes has room for fewer than 1,024.
+// The same, with a table for the services of a round. A set of up to 768 bytes has room for fewer than 128.
 fn all_rounds(
     set: &[u8],
     request: &[u8],
@@ -115,8 +115,8 @@ fn all_rounds(
     requires { ⌜ Running (phase .count) (now set) (now starts) (now order) (now packages) q ⌝ }
     ensures { λ r. ⌜ Moved (phase .count) (now (order .exit)) r (roundsAt (inputsOf (now (set .entry)) (now (request .entry)) (now (starts .entry)) (now (old .entry)) phase) (suc (phase .count)) (lineAt (now (order .entry)) q)) ⌝ }
 {
-    if set.len() <= 4096 {
-        let mut table = [0usize; 1024];
+    if set.len() <= 768 {
+        let mut table = [0usize; 128];
         return rounds(
             set,
             request,
@@ -212,7 +212,7 @@ fn limited_rounds(
     ensures { λ r. ⌜ Moved (phase .count) (now (order .exit)) r (roundsAt (inputsOf (now (set .entry)) (now (request .entry)) (now (starts .entry)) (now (old .entry)) phase) (suc (phase .count)) (lineAt (now (order .entry)) q)) ⌝ }
 {
     let mut roots = [0usize; 16384];
-    let mut needed = [0usize; 8192];
+    let mut needed = [0usize; 7282];
     told_rounds(
         set,
         request,

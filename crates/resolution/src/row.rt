@@ -1,22 +1,22 @@
-// A set of up to 256 module positions, as a row of four words.
+// A set of up to 512 module positions, as a row of eight words.
 ghost use mathlib.Core.Path.{_≡_};
 ghost use mathlib.Core.Bool.{_&&_, _||_};
 ghost use Prim.Native.Nat.{ℕ, _/_, _%_, _<_, _≤_};
 ghost use lib.Dec.{eqb};
 ghost use lib.Count;
-ghost use Rattle.resolution.specs.Row.{bit, holds, size, Empty, United, Added};
+ghost use Rattle.resolution.specs.Row.{bit, holds, size, Empty, United, Intersected, Added};
 use crate::word::word_has;
 use crate::word::word_with;
 
 pub struct Row {
-    pub words: [u64; 4],
+    pub words: [u64; 8],
 }
 
-// Position k is held. No position from 256 on is.
+// Position k is held. No position from 512 on is.
 pub fn has(row: Row, k: usize) -> bool
     ensures { λ r. ⌜ r ≡ holds (row .words) k ⌝ }
 {
-    if k < 256 {
+    if k < 512 {
         let words = row.words;
         let i = k / 64;
         word_has(words[i], k % 64)
@@ -35,30 +35,46 @@ fn word_of(w: u64, q: usize, k: usize) -> u64
     w
 }
 
-// The row with position k more. From 256 on there is none, and the row stays as it is. Each word is made anew, so that none is read
-// back right after a part of the row was written.
+// The row with position k more. From 512 on there is none, and the row stays as it is. Each word of the half that k is in is made anew,
+// so that none is read back right after a part of the row was written.
 pub fn with(row: Row, k: usize) -> Row
     ensures { λ r. ⌜ Added (row .words) k (r .words) ⌝ }
 {
+    let x = row.words;
     if k < 256 {
-        let x = row.words;
         let words = [
             word_of(x[0], 0, k),
             word_of(x[1], 1, k),
             word_of(x[2], 2, k),
             word_of(x[3], 3, k),
+            x[4],
+            x[5],
+            x[6],
+            x[7],
         ];
-        Row { words }
-    } else {
-        row
+        return Row { words };
     }
+    if k < 512 {
+        let words = [
+            x[0],
+            x[1],
+            x[2],
+            x[3],
+            word_of(x[4], 4, k),
+            word_of(x[5], 5, k),
+            word_of(x[6], 6, k),
+            word_of(x[7], 7, k),
+        ];
+        return Row { words };
+    }
+    row
 }
 
 // No position.
 pub fn empty() -> Row
     ensures { λ r. ⌜ Empty (r .words) ⌝ }
 {
-    Row { words: [0; 4] }
+    Row { words: [0; 8] }
 }
 
 // No position is held.
@@ -74,7 +90,35 @@ pub fn union(a: Row, b: Row) -> Row
 {
     let x = a.words;
     let y = b.words;
-    let words = [x[0] | y[0], x[1] | y[1], x[2] | y[2], x[3] | y[3]];
+    let words = [
+        x[0] | y[0],
+        x[1] | y[1],
+        x[2] | y[2],
+        x[3] | y[3],
+        x[4] | y[4],
+        x[5] | y[5],
+        x[6] | y[6],
+        x[7] | y[7],
+    ];
+    Row { words }
+}
+
+// The positions that both have.
+pub fn intersection(a: Row, b: Row) -> Row
+    ensures { λ r. ⌜ Intersected (a .words) (b .words) (r .words) ⌝ }
+{
+    let x = a.words;
+    let y = b.words;
+    let words = [
+        x[0] & y[0],
+        x[1] & y[1],
+        x[2] & y[2],
+        x[3] & y[3],
+        x[4] & y[4],
+        x[5] & y[5],
+        x[6] & y[6],
+        x[7] & y[7],
+    ];
     Row { words }
 }
 
@@ -91,5 +135,12 @@ pub fn count(row: Row) -> usize
     ensures { λ r. ⌜ r ≡ size (row .words) ⌝ }
 {
     let words = row.words;
-    ones(words[0]) + ones(words[1]) + ones(words[2]) + ones(words[3])
+    ones(words[0])
+        + ones(words[1])
+        + ones(words[2])
+        + ones(words[3])
+        + ones(words[4])
+        + ones(words[5])
+        + ones(words[6])
+        + ones(words[7])
 }

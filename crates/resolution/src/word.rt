@@ -1,7 +1,8 @@
 // The bits of a word, one by one.
 ghost use mathlib.Core.Path.{_≡_};
 ghost use mathlib.Core.Bool.{_||_};
-ghost use Prim.Native.Nat.{ℕ, _<_};
+ghost use Prim.Native.Nat.{ℕ, _^_, _<_};
+ghost use lib.Bits.{bitOr};
 ghost use lib.Dec.{eqb};
 ghost use Rattle.resolution.specs.Row.{bit, FirstFrom};
 
@@ -17,6 +18,7 @@ pub fn word_has(w: u64, b: usize) -> bool
 pub fn word_with(w: u64, b: usize) -> u64
     requires { ⌜ b < 64 ⌝ }
     ensures { λ r. ⌜ ((k : ℕ) → bit r k ≡ bit w k || eqb k b) ⌝ }
+    ensures { λ r. ⌜ r ≡ bitOr w (2 ^ b) ⌝ }
 {
     w | (1u64 << b)
 }

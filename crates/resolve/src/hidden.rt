@@ -13,6 +13,7 @@ use records::record::Next;
 use records::set::SetAnswer;
 use records::set::check_set_with;
 use records::set::entry;
+use records::sorted::INDEX_LENGTH;
 use records::sorted::find_in;
 
 // The place that has the byte at `at`: one more for each PL before it but one at the front.
@@ -66,7 +67,7 @@ fn message(set: &[u8], at: usize, first: usize)
 // A message for each of the n modules whose name an earlier one has.
 fn list_hidden(set: &[u8], starts: &[usize], n: usize, index: &[usize])
     requires { ⌜ length (now set) ≤ 65536 ⌝ }
-    requires { ⌜ n ≤ 256 ⌝ }
+    requires { ⌜ n ≤ 512 ⌝ }
     requires { ⌜ n ≤ length (now starts) ⌝ }
     requires { ⌜ Indexed (map (nameAt (now set)) (take n (now starts))) (now index) ⌝ }
 {
@@ -89,7 +90,7 @@ fn list_hidden(set: &[u8], starts: &[usize], n: usize, index: &[usize])
 pub fn tell_hidden(set: &[u8])
     requires { ⌜ length (now set) ≤ 65536 ⌝ }
 {
-    let mut index = [0usize; 1026];
+    let mut index = [0usize; INDEX_LENGTH];
     let checked = check_set_with(set, &mut index);
     let answer = checked.answer;
     match answer {

@@ -15,11 +15,10 @@ use records::finder::name_at;
 use records::order::name_in;
 use records::record::Kind;
 use records::set::check_set;
-use resolution::configuration::Configuration;
-use resolution::configuration::row_of;
+use resolution::configuration::len;
+use resolution::configuration::reads;
+use resolution::configuration::reads_unnamed;
 use resolution::resolve::Outcome;
-use resolution::row::Row;
-use resolution::row::has;
 
 fn say(text: &[u8]) {
     io::write_all(STDOUT_FILENO, text);
@@ -39,50 +38,49 @@ fn number(text: &[u8], n: usize) {
     say(b"\n");
 }
 
-// Of the names from `from` up to `to`, those of the modules in the row.
-fn list_row(set: &[u8], starts: &[usize], names: &[usize], from: usize, to: usize, row: Row)
+// Of the names from `from` up to `to`, those of the modules that module i reads.
+fn list_row(
+    set: &[u8],
+    starts: &[usize],
+    names: &[usize],
+    from: usize,
+    to: usize,
+    words: &[u64],
+    i: usize,
+)
     requires { ⌜ to ≤ length (now names) ⌝ }
 {
     let mut k = from;
     while k < to {
         let entry = names[k];
-        if has(row, module_of(starts, entry)) {
+        if reads(words, i, module_of(starts, entry)) {
             line(b"reads ", name_in(set, entry));
         }
         k += 1;
     }
 }
 
-// The names of the modules in the row, and ALL-UNNAMED in its place among them.
-fn list_reads(set: &[u8], starts: &[usize], names: &[usize], count: usize, row: Row, unnamed: bool)
+// The names of the modules that module i reads, and ALL-UNNAMED in its place among them.
+fn list_reads(set: &[u8], starts: &[usize], names: &[usize], count: usize, words: &[u64], i: usize)
     requires { ⌜ count ≤ length (now names) ⌝ }
 {
     let middle = place(set, names, count, b"ALL-UNNAMED");
-    list_row(set, starts, names, 0, middle, row);
-    if unnamed {
+    list_row(set, starts, names, 0, middle, words, i);
+    if reads_unnamed(words, i) {
         line(b"reads ", b"ALL-UNNAMED");
     }
-    list_row(set, starts, names, middle, count, row);
+    list_row(set, starts, names, middle, count, words, i);
 }
 
 // The resolved modules by the table of their names, and below each the names that it reads.
-fn list_modules(set: &[u8], starts: &[usize], names: &[usize], count: usize, c: Configuration)
+fn list_modules(set: &[u8], starts: &[usize], names: &[usize], count: usize, words: &[u64])
     requires { ⌜ count ≤ length (now names) ⌝ }
 {
     let mut k: usize = 0;
     while k < count {
         let entry = names[k];
         line(b"module ", name_in(set, entry));
-        let i = module_of(starts, entry);
-        let words = c.unnamed;
-        list_reads(
-            set,
-            starts,
-            names,
-            count,
-            row_of(c, i),
-            has(Row { words }, i),
-        );
+        list_reads(set, starts, names, count, words, module_of(starts, entry));
         k += 1;
     }
 }
@@ -110,43 +108,42 @@ fn list_owners(set: &[u8], starts: &[usize], packages: &[usize], count: usize)
 }
 
 // The modules in byte order. In an MO three bytes stand before the name.
-fn modules(set: &[u8], starts: &[usize], members: Row, c: Configuration)
+fn modules(set: &[u8], starts: &[usize], words: &[u64])
     requires { ⌜ length (now set) ≤ 65536 ⌝ }
 {
     let mut table = [0usize; 16384];
-    let count = in_order(set, starts, members, Kind::Module, 3, &mut table);
-    list_modules(set, starts, &table, count, c);
+    let count = in_order(set, starts, words, Kind::Module, 3, &mut table);
+    list_modules(set, starts, &table, count, words);
 }
 
 // The packages in byte order.
-fn owners(set: &[u8], starts: &[usize], members: Row)
+fn owners(set: &[u8], starts: &[usize], words: &[u64])
     requires { ⌜ length (now set) ≤ 65536 ⌝ }
 {
     let mut table = [0usize; 16384];
-    let count = in_order(set, starts, members, Kind::Package, 0, &mut table);
+    let count = in_order(set, starts, words, Kind::Package, 0, &mut table);
     list_owners(set, starts, &table, count);
 }
 
 // The configuration that the set and its request resolve to.
-fn list(set: &[u8], c: Configuration)
+fn list(set: &[u8], words: &[u64])
     requires { ⌜ length (now set) ≤ 65536 ⌝ }
 {
-    number(b"resolved ", resolution::configuration::len(c));
+    number(b"resolved ", len(words));
     let checked = check_set(set);
     let starts = checked.starts;
-    let words = c.members;
-    modules(set, &starts, Row { words }, c);
-    owners(set, &starts, Row { words });
+    modules(set, &starts, words);
+    owners(set, &starts, words);
 }
 
 // The configuration, or the refusal.
 fn answer<'a>(set: &'a [u8], request: &'a [u8])
     requires { ⌜ length (now set) ≤ 65536 ⌝ }
 {
-    let r = resolution::resolve::resolve(set, request);
-    let outcome = r.outcome;
+    let mut words = [0u64; 4616];
+    let outcome = resolution::resolve::resolve(set, request, &mut words);
     match outcome {
-        Outcome::Accepted => list(set, r.configuration),
+        Outcome::Accepted => list(set, &words),
         Outcome::Refused(e) => number(b"refused ", e.number()),
     }
     tell_absent(set, request, outcome);

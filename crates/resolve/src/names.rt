@@ -9,8 +9,7 @@ use records::order::name_in;
 use records::record::Cursor;
 use records::record::Kind;
 use records::record::Next;
-use resolution::row::Row;
-use resolution::row::has;
+use resolution::configuration::contains;
 
 // The position of the module that has the byte at `at`: the last one that starts at or before it.
 fn module_at(starts: &[usize], at: usize) -> usize {
@@ -44,12 +43,12 @@ pub fn place(set: &[u8], table: &[usize], count: usize, name: &[u8]) -> usize
     count
 }
 
-// Fills the table with the names in the records of this kind of the modules in this row, in byte order without repeats, and
+// Fills the table with the names in the records of this kind of the members, in byte order without repeats, and
 // returns their number. The name stands behind `skip` bytes of the body.
 pub fn in_order(
     set: &[u8],
     starts: &[usize],
-    modules: Row,
+    words: &[u64],
     kind: Kind,
     skip: usize,
     table: &mut [usize],
@@ -69,7 +68,7 @@ pub fn in_order(
                 next,
             } => {
                 c = next;
-                if has(modules, module_at(starts, start)) {
+                if contains(words, module_at(starts, start)) {
                     let at = start + skip;
                     let name = name_of(tail(set, at));
                     count = insert(set, table, count, (at + 1) * 65536 + name.len());

@@ -1,10 +1,10 @@
 -- What each return of the questions shows.
-use Prim.Native.Nat.{ℕ}
+use Prim.Native.Nat.{ℕ, _≤_, _<_}
 use mathlib.Core.Path.{_≡_, refl, sym, ap, _∙_}
 use mathlib.Core.Bool.{Bool, true, false, _&&_, _||_, cond, or-false, or-true, or-comm}
 use mathlib.Core.Option.{Option, some}
 use mathlib.Core.List.{List, map}
-use lib.ListN.{take}
+use lib.ListN.{length, take}
 use native.Mathlib.Omega.{arith}
 use Rattle.records.specs.Bytes.{sameBytes}
 use Rattle.records.specs.Name.{javaBase, allUnnamed, memName}
@@ -15,6 +15,7 @@ use Rattle.records.specs.Set.{nameAt, blockAt, modules, checkSet}
 use Rattle.records.specs.Finder.{findName, findModule}
 use Rattle.records.specs.Sorted.{IndexedSet}
 use Rattle.records.specs.declared.error.ModuleError.{ModuleError}
+use Rattle.records.specs.declared.error.ModuleError.the-variants.{OutputTooShort}
 use Rattle.records.specs.declared.finder.Found.{Found}
 use Rattle.records.specs.declared.finder.Found.the-variants.{At, Nothing}
 use Rattle.records.specs.declared.record.Kind.the-variants as Kind
@@ -26,11 +27,10 @@ use Rattle.records.proofs.finder.Modules.{find-is}
 use Rattle.records.proofs.set.Blocks.{GoodSet, good-set}
 use Rattle.records.proofs.sorted.Index.{indexed-none}
 use Rattle.resolution.specs.Lists.{Name}
-use Rattle.resolution.specs.Row.{holds}
-use Rattle.resolution.specs.Graph.{edge, Successors}
+use Rattle.resolution.specs.Configuration.{memberBit, edgeBit, unnamedBit}
 use Rattle.resolution.specs.Positions.{moduleAt, isVisible}
 use Rattle.resolution.specs.Observed.{hasMember, hasEdge}
-use Rattle.resolution.specs.declared.configuration.Configuration.{Configuration}
+use Rattle.resolution.proofs.ConfigurationWords.{with-refused, with-few, with-enough}
 use Rattle.resolution.proofs.Positions.{Located, located-visible}
 use Rattle.resolution.proofs.Observed.{member-bit, edge-bit, unnamed-bit}
 use Rattle.resolution.specs.Lookup.{Lookup}
@@ -54,31 +54,34 @@ module _ (s : List ℕ) (n : ℕ) (t : List ℕ) (k : checkSet s ≡ record { an
   found : f ≡ findModule s x
   found = e ∙ find-is s n t (good-set s n t k) x
 
-  pub member-held : (ws : List ℕ) (i : ℕ) (h : Bool) → f ≡ At i → h ≡ holds ws i → h ≡ true → At i ≡ memberIn s ws x
+  pub member-held : (c : List ℕ) (i : ℕ) (h : Bool) → f ≡ At i → h ≡ memberBit c i → h ≡ true → At i ≡ memberIn s c x
   unfolding memberIn amongMembers
-  member-held ws i h ei eh y = sym (ap (amongMembers ws) (sym found ∙ ei) ∙ rw (← eh, y))
+  member-held c i h ei eh y = sym (ap (amongMembers c) (sym found ∙ ei) ∙ rw (← eh, y))
 
-  pub member-other : (ws : List ℕ) (i : ℕ) (h : Bool) → f ≡ At i → h ≡ holds ws i → h ≡ false → Nothing ≡ memberIn s ws x
+  pub member-other : (c : List ℕ) (i : ℕ) (h : Bool) → f ≡ At i → h ≡ memberBit c i → h ≡ false → Nothing ≡ memberIn s c x
   unfolding memberIn amongMembers
-  member-other ws i h ei eh y = sym (ap (amongMembers ws) (sym found ∙ ei) ∙ rw (← eh, y))
+  member-other c i h ei eh y = sym (ap (amongMembers c) (sym found ∙ ei) ∙ rw (← eh, y))
 
-  pub member-none : (ws : List ℕ) → f ≡ Nothing → Nothing ≡ memberIn s ws x
+  pub member-none : (c : List ℕ) → f ≡ Nothing → Nothing ≡ memberIn s c x
   unfolding memberIn amongMembers
-  member-none ws en = sym (ap (amongMembers ws) (sym found ∙ en))
+  member-none c en = sym (ap (amongMembers c) (sym found ∙ en))
 
-  -- ---- what a row leads to
+  -- ---- what a position leads to
 
-  module _ (ws : List ℕ) (u a : Bool) (ea : a ≡ sameBytes x allUnnamed && u) (z : a ≡ false) where
-    pub leads-held : (r : Bool) (j : ℕ) → f ≡ At j → r ≡ holds ws j → r ≡ passes (holds ws) (findModule s x) || (sameBytes x allUnnamed && u)
+  module _ (c : List ℕ) (i : ℕ) (u a : Bool) (eu : u ≡ unnamedBit c i) (ea : a ≡ sameBytes x allUnnamed && u) (z : a ≡ false) where
+    not-unnamed : sameBytes x allUnnamed && unnamedBit c i ≡ false
+    not-unnamed = sym (ea ∙ ap (λ (b : Bool). sameBytes x allUnnamed && b) eu) ∙ z
+
+    pub leads-held : (r : Bool) (j : ℕ) → f ≡ At j → r ≡ edgeBit c i j → r ≡ passes (edgeBit c i) (findModule s x) || (sameBytes x allUnnamed && unnamedBit c i)
     unfolding passes
-    leads-held r j ej er = er ∙ sym (or-false (holds ws j)) ∙ sym (rw (← ea, z) (ap (λ (y : Found). passes (holds ws) y || false) (sym found ∙ ej)))
+    leads-held r j ej er = er ∙ sym (or-false (edgeBit c i j)) ∙ sym (rw not-unnamed (ap (λ (y : Found). passes (edgeBit c i) y || false) (sym found ∙ ej)))
 
-    pub leads-none : f ≡ Nothing → false ≡ passes (holds ws) (findModule s x) || (sameBytes x allUnnamed && u)
+    pub leads-none : f ≡ Nothing → false ≡ passes (edgeBit c i) (findModule s x) || (sameBytes x allUnnamed && unnamedBit c i)
     unfolding passes
-    leads-none en = sym (rw (← ea, z) (ap (λ (y : Found). passes (holds ws) y || false) (sym found ∙ en)))
+    leads-none en = sym (rw not-unnamed (ap (λ (y : Found). passes (edgeBit c i) y || false) (sym found ∙ en)))
 
-pub leads-unnamed : (b : Bool) (x : Name) (u a : Bool) → a ≡ sameBytes x allUnnamed && u → a ≡ true → true ≡ b || (sameBytes x allUnnamed && u)
-leads-unnamed b x u a ea y = sym (rw (← ea, y) (or-true b))
+pub leads-unnamed : (b : Bool) (x : Name) (v u a : Bool) → u ≡ v → a ≡ sameBytes x allUnnamed && u → a ≡ true → true ≡ b || (sameBytes x allUnnamed && v)
+leads-unnamed b x v u a eu ea y = sym (rw (← eu, ← ea, y) (or-true b))
 
 pub unnamed-yes : (b a u : Bool) → a ≡ b → a ≡ true → u ≡ b && u
 unnamed-yes b a u e y = sym (rw (← e, y))
@@ -94,67 +97,61 @@ pub ruleset leads-laws = (lookup-few, lookup-room, lookup-index, leads-held, lea
 
 -- ---- a read edge
 
-pub held-of : (ws : List ℕ) (f : Found) (i : ℕ) → amongMembers ws f ≡ At i → (f ≡ At i) × (holds ws i ≡ true)
+pub held-of : (c : List ℕ) (f : Found) (i : ℕ) → amongMembers c f ≡ At i → (f ≡ At i) × (memberBit c i ≡ true)
 unfolding amongMembers
-held-of ws (At j) i e = by (holds ws j)
+held-of c (At j) i e = by (memberBit c j)
     (λ y. let q : At j ≡ At i = sym (rw y) ∙ e in let z : j ≡ i = cc in (q, rw (← z) y))
     (λ y. let q : Nothing ≡ At i = sym (rw y) ∙ e in absurd (let z : _≡_ {A = ℕ} 0 1 = cc in omega arith))
-held-of ws Nothing i e = absurd (let z : _≡_ {A = ℕ} 0 1 = cc in omega arith)
+held-of c Nothing i e = absurd (let z : _≡_ {A = ℕ} 0 1 = cc in omega arith)
 
-pub not-held : (ws : List ℕ) (f : Found) → amongMembers ws f ≡ Nothing → passes (holds ws) f ≡ false
+pub not-held : (c : List ℕ) (f : Found) → amongMembers c f ≡ Nothing → passes (memberBit c) f ≡ false
 unfolding amongMembers passes
-not-held ws (At j) e = by (holds ws j)
+not-held c (At j) e = by (memberBit c j)
     (λ y. let q : At j ≡ Nothing = sym (rw y) ∙ e in absurd (let z : _≡_ {A = ℕ} 0 1 = cc in omega arith))
     (λ y. y)
-not-held ws Nothing e = refl
+not-held c Nothing e = refl
 
-pub not-held-at : (ws : List ℕ) (f : Found) (i : ℕ) → f ≡ At i → amongMembers ws f ≡ Nothing → holds ws i ≡ false
+pub not-held-at : (c : List ℕ) (f : Found) (i : ℕ) → f ≡ At i → amongMembers c f ≡ Nothing → memberBit c i ≡ false
 unfolding passes
-not-held-at ws f i e h = sym (rw e) ∙ not-held ws f h
-
-to-row : (g ws : List ℕ) (i : ℕ) (f : Found) → Successors g i ws → passes (holds ws) f ≡ passes (edge g i) f
-unfolding passes
-to-row g ws i (At j) h = h .each j
-to-row g ws i Nothing h = refl
+not-held-at c f i e h = sym (rw e) ∙ not-held c f h
 
 -- what a name finds is observable, so that the tests are the bits of the words
 pub found-visible : (s : List ℕ) (x : Name) (i : ℕ) → findModule s x ≡ At i → isVisible (modules s) i ≡ true
 found-visible s x i e = located-visible x (modules s) i (set-located s x i e)
 
-edge-found : (s : List ℕ) (c : Configuration) (y : Name) (i : ℕ) → isVisible (modules s) i ≡ true → (f : Found) → findModule s y ≡ f
-    → passes (hasEdge (modules s) c i) f ≡ passes (edge (c .reads) i) f
+edge-found : (s : List ℕ) (c : List ℕ) (y : Name) (i : ℕ) → isVisible (modules s) i ≡ true → (f : Found) → findModule s y ≡ f
+    → passes (hasEdge (modules s) c i) f ≡ passes (edgeBit c i) f
 unfolding passes
 edge-found s c y i v (At j) e = edge-bit (modules s) c i j v (found-visible s y j e)
 edge-found s c y i v Nothing e = refl
 
-pub edge-to : (s : List ℕ) (c : Configuration) (y : Name) (i : ℕ) → isVisible (modules s) i ≡ true
-    → edgeTo s c y i ≡ passes (edge (c .reads) i) (findModule s y) || (sameBytes y allUnnamed && holds (c .unnamed) i)
+pub edge-to : (s : List ℕ) (c : List ℕ) (y : Name) (i : ℕ) → isVisible (modules s) i ≡ true
+    → edgeTo s c y i ≡ passes (edgeBit c i) (findModule s y) || (sameBytes y allUnnamed && unnamedBit c i)
 unfolding edgeTo
 edge-to s c y i v = rw (edge-found s c y i v (findModule s y) refl, unnamed-bit (modules s) c i v)
 
-member-found : (s : List ℕ) (c : Configuration) (x : Name) (f : Found) → findModule s x ≡ f → passes (hasMember (modules s) c) f ≡ passes (holds (c .members)) f
+member-found : (s : List ℕ) (c : List ℕ) (x : Name) (f : Found) → findModule s x ≡ f → passes (hasMember (modules s) c) f ≡ passes (memberBit c) f
 unfolding passes
 member-found s c x (At i) e = member-bit (modules s) c i (found-visible s x i e)
 member-found s c x Nothing e = refl
 
-pub member-by : (s : List ℕ) (c : Configuration) (x : Name) → isMember s c x ≡ passes (holds (c .members)) (findModule s x)
+pub member-by : (s : List ℕ) (c : List ℕ) (x : Name) → isMember s c x ≡ passes (memberBit c) (findModule s x)
 unfolding isMember
 member-by s c x = member-found s c x (findModule s x) refl
 
-module _ (s : List ℕ) (c : Configuration) (x y : Name) (m : Found) (em : m ≡ memberIn s (c .members) x) where
-  pub reads-from : (i : ℕ) (last : Bool) (ws : List ℕ) (r : Bool) → m ≡ At i → last ≡ holds (c .unnamed) i → Successors (c .reads) i ws
-      → r ≡ passes (holds ws) (findModule s y) || (sameBytes y allUnnamed && last) → r ≡ readsName s c x y
+module _ (s : List ℕ) (c : List ℕ) (x y : Name) (m : Found) (em : m ≡ memberIn s c x) where
+  pub reads-from : (i : ℕ) (r : Bool) → m ≡ At i → r ≡ passes (edgeBit c i) (findModule s y) || (sameBytes y allUnnamed && unnamedBit c i) → r ≡ readsName s c x y
   unfolding readsName isReader passes memberIn
-  reads-from i last ws r ei el h er =
-      let p = held-of (c .members) (findModule s x) i (sym em ∙ ei) in
+  reads-from i r ei er =
+      let p = held-of c (findModule s x) i (sym em ∙ ei) in
       let v = found-visible s x i (p .0) in
-      er ∙ rw (to-row (c .reads) ws i (findModule s y) h, el) (sym (rw (p .0) (rw (member-bit (modules s) c i v, p .1) (edge-to s c y i v))))
+      er ∙ sym (rw (p .0) (rw (member-bit (modules s) c i v, p .1) (edge-to s c y i v)))
 
   pub reads-none : m ≡ Nothing → false ≡ readsName s c x y
   unfolding readsName isReader memberIn
-  reads-none en = turned (findModule s x) refl (not-held (c .members) (findModule s x) (sym em ∙ en))
+  reads-none en = turned (findModule s x) refl (not-held c (findModule s x) (sym em ∙ en))
     where
-      turned : (f : Found) → findModule s x ≡ f → passes (holds (c .members)) f ≡ false → false ≡ passes (isReader s c y) f
+      turned : (f : Found) → findModule s x ≡ f → passes (memberBit c) f ≡ false → false ≡ passes (isReader s c y) f
       turned (At i) e h = unfold passes isReader in sym (rw (member-bit (modules s) c i (found-visible s x i e) ∙ h))
       turned Nothing e h = unfold passes in refl
 
@@ -265,24 +262,24 @@ module _ (k : AccessKind) (g : Bool) where
 pub ruleset allowed-laws = (allowed-yes, allowed-exports, allowed-opens)
 
 -- the module of the member is the module that is resolved
-module _ (s : List ℕ) (n : ℕ) (t : List ℕ) (k : checkSet s ≡ record { answer = Modules n; starts = t }) (c : Configuration) (x : Name) where
+module _ (s : List ℕ) (n : ℕ) (t : List ℕ) (k : checkSet s ≡ record { answer = Modules n; starts = t }) (c : List ℕ) (x : Name) where
   good : GoodSet s n t
   good = good-set s n t k
 
-  resolved : (f : Found) → findModule s x ≡ f → moduleOf s t (amongMembers (c .members) f) ≡ resolvedModule s c x
+  resolved : (f : Found) → findModule s x ≡ f → moduleOf s t (amongMembers c f) ≡ resolvedModule s c x
   unfolding moduleOf amongMembers resolvedModule passes
   resolved (At i) e =
-      let h : isMember s c x ≡ holds (c .members) i = member-by s c x ∙ ap (passes (holds (c .members))) e in
-      by (holds (c .members) i)
+      let h : isMember s c x ≡ memberBit c i = member-by s c x ∙ ap (passes (memberBit c)) e in
+      by (memberBit c i)
       (λ y.
       let l : Located x (modules s) i = set-located s x i e in
       let m : moduleAt (modules s) i ≡ descriptorOf (blockAt s t i) = module-block s n t good i (omega (arith, l .within, set-length s n t good)) in
       let b : isMember s c x ≡ true = h ∙ y in
       rw (y, b) (sym (l .is ∙ ap some m)))
       (λ y. let b : isMember s c x ≡ false = h ∙ y in rw (y, b))
-  resolved Nothing e = let b : isMember s c x ≡ false = member-by s c x ∙ ap (passes (holds (c .members))) e in rw b
+  resolved Nothing e = let b : isMember s c x ≡ false = member-by s c x ∙ ap (passes (memberBit c)) e in rw b
 
-  pub resolved-is : (m : Found) → m ≡ memberIn s (c .members) x → moduleOf s t m ≡ resolvedModule s c x
+  pub resolved-is : (m : Found) → m ≡ memberIn s c x → moduleOf s t m ≡ resolvedModule s c x
   unfolding memberIn
   resolved-is m e = ap (moduleOf s t) e ∙ resolved (findModule s x) refl
 
@@ -310,18 +307,25 @@ pub ruleset verdict-laws = (verdict-same, verdict-unnamed, verdict-not, verdict-
 
 -- ---- the set and the request are checked first
 
-module _ (s q : List ℕ) (f : Bool) (c : Configuration) (x y p : Name) (k : Checked) (ek : k ≡ checkInputs s q) where
+module _ (s q : List ℕ) (f : Bool) (c : List ℕ) (x y p : Name) (k : Checked) (ek : k ≡ checkInputs s q) where
+  taken : (a : SetAnswer) → k .answer ≡ a → checkInputs s q .answer ≡ a
+  taken a h = ap (λ (z : Checked). z .answer) (sym ek) ∙ h
+
   pub answer-refused : (e : ModuleError) → k .answer ≡ Set.Refused e → Refused e ≡ checkAccess f s q c x y p
   unfolding checkAccess answered
-  answer-refused e h = sym (ap (answered f s q c x y p) (ap (λ (z : Checked). z .answer) (sym ek) ∙ h))
+  answer-refused e h = sym (ap (answered f s q c x y p) (with-refused c (checkInputs s q .answer) e (taken (Set.Refused e) h)))
 
-  pub answer-verdict : (n : ℕ) (m : Found) (e : Bool) (r : AccessCheckResult) → k .answer ≡ Modules n → m ≡ memberIn s (c .members) y
+  pub answer-short : (n : ℕ) → k .answer ≡ Modules n → length c < 4616 → Refused (OutputTooShort 4616) ≡ checkAccess f s q c x y p
+  unfolding checkAccess answered
+  answer-short n h l = sym (ap (answered f s q c x y p) (with-few c (checkInputs s q .answer) n (taken (Modules n) h) l))
+
+  pub answer-verdict : (n : ℕ) (m : Found) (e : Bool) (r : AccessCheckResult) → k .answer ≡ Modules n → 4616 ≤ length c → m ≡ memberIn s c y
       → e ≡ readsName s c x y → r ≡ verdictBy f (requestOf q) (moduleOf s (k .starts) m) (e || sameBytes y javaBase) x y p
       → Verdict r ≡ checkAccess f s q c x y p
   unfolding checkAccess answered verdict namedVerdict unnamedVerdict verdictBy
-  answer-verdict n m e r h em ee er =
+  answer-verdict n m e r h l em ee er =
       ap Verdict (er ∙ rw (resolved-is s n (k .starts) (inputs-taken s q n k ek h) c y m em, ee))
-      ∙ sym (ap (answered f s q c x y p) (ap (λ (z : Checked). z .answer) (sym ek) ∙ h))
+      ∙ sym (ap (answered f s q c x y p) (with-enough c (checkInputs s q .answer) n (taken (Modules n) h) l))
 
 pub answer-set : (s q : List ℕ) (k : Checked) → k ≡ checkInputs s q → (n : ℕ) → k .answer ≡ Modules n → checkSet s ≡ record { answer = Modules n; starts = k .starts }
 answer-set s q k ek n h = inputs-taken s q n k ek h
@@ -329,25 +333,35 @@ answer-set s q k ek n h = inputs-taken s q n k ek h
 pub answer-lookup : (s q : List ℕ) (k : Checked) (index : List ℕ) → k ≡ checkInputs s q → (n : ℕ) → k .answer ≡ Modules n → IndexedSet s k index → Lookup s (k .starts) n index
 answer-lookup s q k index ek n h x = set-lookup s n (k .starts) (answer-set s q k ek n h) index (x .names n h)
 
-pub ruleset answer-laws = (indexed-none, answer-refused, answer-verdict, answer-set, answer-lookup)
+pub ruleset answer-laws = (indexed-none, answer-refused, answer-short, answer-verdict, answer-set, answer-lookup)
 
 -- ---- whether a module can read another
 
-module _ (s : List ℕ) (c : Configuration) (x y : Name) (k : Checked) (ek : k ≡ checkSet s) where
+module _ (s : List ℕ) (c : List ℕ) (x y : Name) (k : Checked) (ek : k ≡ checkSet s) where
+  taken-read : (a : SetAnswer) → k .answer ≡ a → checkSet s .answer ≡ a
+  taken-read a h = ap (λ (z : Checked). z .answer) (sym ek) ∙ h
+
   pub can-refused : (e : ModuleError) → k .answer ≡ Set.Refused e → Read.Refused e ≡ canRead s c x y
   unfolding canRead readAnswered
-  can-refused e h = sym (ap (readAnswered s c x y) (ap (λ (z : Checked). z .answer) (sym ek) ∙ h))
+  can-refused e h = sym (ap (readAnswered s c x y) (with-refused c (checkSet s .answer) e (taken-read (Set.Refused e) h)))
 
-  module _ (n : ℕ) (h : k .answer ≡ Modules n) (a : Bool) (ea : a ≡ sameBytes x y) where
-    pub can-same : a ≡ true → Read.Reads true ≡ canRead s c x y
+  module _ (n : ℕ) (h : k .answer ≡ Modules n) where
+    pub can-short : length c < 4616 → Read.Refused (OutputTooShort 4616) ≡ canRead s c x y
     unfolding canRead readAnswered
-    can-same z = sym (ap (readAnswered s c x y) (ap (λ (z : Checked). z .answer) (sym ek) ∙ h) ∙ rw (← ea, z))
+    can-short l = sym (ap (readAnswered s c x y) (with-few c (checkSet s .answer) n (taken-read (Modules n) h) l))
 
-    pub can-edge : (e r : Bool) → a ≡ false → e ≡ readsName s c x y → r ≡ e || sameBytes y javaBase → Read.Reads r ≡ canRead s c x y
-    unfolding canRead readAnswered
-    can-edge e r z ee er =
-        ap Read.Reads (er ∙ ap (λ (t : Bool). t || sameBytes y javaBase) ee ∙ or-comm (readsName s c x y) (sameBytes y javaBase))
-        ∙ sym (ap (readAnswered s c x y) (ap (λ (z : Checked). z .answer) (sym ek) ∙ h) ∙ rw (← ea, z))
+    module _ (l : 4616 ≤ length c) (a : Bool) (ea : a ≡ sameBytes x y) where
+      answered-read : canRead s c x y ≡ Read.Reads (sameBytes x y || (sameBytes y javaBase || readsName s c x y))
+      unfolding canRead readAnswered
+      answered-read = ap (readAnswered s c x y) (with-enough c (checkSet s .answer) n (taken-read (Modules n) h) l)
+
+      pub can-same : a ≡ true → Read.Reads true ≡ canRead s c x y
+      can-same z = sym (answered-read ∙ rw (← ea, z))
+
+      pub can-edge : (e r : Bool) → a ≡ false → e ≡ readsName s c x y → r ≡ e || sameBytes y javaBase → Read.Reads r ≡ canRead s c x y
+      can-edge e r z ee er =
+          ap Read.Reads (er ∙ ap (λ (t : Bool). t || sameBytes y javaBase) ee ∙ or-comm (readsName s c x y) (sameBytes y javaBase))
+          ∙ sym (answered-read ∙ rw (← ea, z))
 
 pub can-set : (s : List ℕ) (k : Checked) → k ≡ checkSet s → (n : ℕ) → k .answer ≡ Modules n → checkSet s ≡ record { answer = Modules n; starts = k .starts }
 can-set s k ek n h = sym ek ∙ ap (λ (z : SetAnswer). record { answer = z; starts = k .starts }) h
@@ -355,4 +369,4 @@ can-set s k ek n h = sym ek ∙ ap (λ (z : SetAnswer). record { answer = z; sta
 pub can-lookup : (s : List ℕ) (k : Checked) (index : List ℕ) → k ≡ checkSet s → (n : ℕ) → k .answer ≡ Modules n → IndexedSet s k index → Lookup s (k .starts) n index
 can-lookup s k index ek n h x = set-lookup s n (k .starts) (can-set s k ek n h) index (x .names n h)
 
-pub ruleset can-laws = (indexed-none, can-refused, can-same, can-edge, can-set, can-lookup)
+pub ruleset can-laws = (indexed-none, can-refused, can-short, can-same, can-edge, can-set, can-lookup)

@@ -15,53 +15,54 @@ use Rattle.records.specs.Name.{allUnnamed}
 use Rattle.records.specs.Set.{nameAt, modules, checkSet}
 use Rattle.records.specs.Finder.{findName, findModule}
 use Rattle.records.specs.declared.error.ModuleError.{ModuleError}
+use Rattle.records.specs.declared.error.ModuleError.the-variants.{OutputTooShort}
 use Rattle.records.specs.declared.finder.Found.{Found}
 use Rattle.records.specs.declared.finder.Found.the-variants.{At, Nothing}
 use Rattle.records.specs.declared.set.Checked.{Checked}
 use Rattle.records.specs.declared.set.SetAnswer.{SetAnswer}
 use Rattle.records.specs.declared.set.SetAnswer.the-variants.{Modules}
 use Rattle.records.specs.declared.set.SetAnswer.the-variants as Set
-use Rattle.records.proofs.Logic.{by, clash, true≠false, and-left}
+use Rattle.records.proofs.Logic.{by, true≠false, and-left}
 use Rattle.records.proofs.finder.Modules.{find-is}
 use Rattle.records.proofs.set.Blocks.{GoodSet, good-set}
 use Rattle.records.proofs.sorted.Index.{indexed-none}
 use Rattle.resolution.specs.Lists.{Name}
 use Rattle.resolution.specs.Positions.{isVisible}
 use Rattle.resolution.specs.Observed.{hasMember, hasEdge, hasUnnamedEdge}
-use Rattle.resolution.specs.Row.{holds, Empty}
-use Rattle.resolution.specs.Graph.{edge}
+use Rattle.resolution.specs.Configuration.{wordCount, memberBit, edgeBit, unnamedBit}
+use Rattle.resolution.specs.Row.{holds, words, Empty, Intersected}
 use Rattle.resolution.specs.Readability.{Holding}
-use Rattle.resolution.specs.Resolve.{words}
-use Rattle.resolution.specs.declared.configuration.Configuration.{Configuration}
+use Rattle.resolution.proofs.ConfigurationWords.{with-refused, with-few, with-enough}
 use Rattle.resolution.proofs.Observed.{member-bit}
 use Rattle.resolution.proofs.Positions.{visible-in}
 use Rattle.resolution.proofs.Sets.{set-length, lookup-few, lookup-room, lookup-index}
 use Rattle.access.specs.Access.{passes, edgeTo, isReader}
 use Rattle.access.specs.Members.{memberIn}
-use Rattle.access.specs.ReadGraph.{readsAt, readsUnnamedAt, Leads, step, then, LeadsToOne, refusedGraph, readersAnswered, readersOf, LeadsToUnnamed, LedFrom, TransitiveReads}
-use Rattle.access.specs.GraphSteps.{Told, readerAt, readerBelow, heldBoth, countsAt, edgeCounts, unnamedCounts, Masked, Onward}
+use Rattle.access.specs.ReadGraph.{rowLength, readsAt, readsUnnamedAt, Leads, step, then, LeadsToOne, refusedGraph, readersAnswered, readersOf, transitiveReads, LeadsToUnnamed, LedFrom}
+use Rattle.access.specs.GraphSteps.{Told, readerAt, readerBelow, countsAt, countsIn, edgeCounts, unnamedCounts, Masked, Onward}
 use Rattle.access.specs.declared.graph.GraphOutcome.the-variants.{Answered, Refused}
 use Rattle.access.specs.declared.graph.GraphAnswer.{GraphAnswer}
 use Rattle.access.proofs.access.Laws.{held-of, not-held-at, found-visible, edge-to, can-set, can-lookup}
+use Rattle.access.proofs.graph.Led.{led-is, transitive-refused}
 use Rattle.resolution.proofs.Words.{words-are}
 
 -- ---- the answers
 
-pub refuse-is : (e : ModuleError) → record { outcome = Refused e; row = 0 ∷ 0 ∷ 0 ∷ 0 ∷ []; unnamed = false } ≡ refusedGraph e
+pub refuse-is : (e : ModuleError) → record { outcome = Refused e; row = 0 ∷ 0 ∷ 0 ∷ 0 ∷ 0 ∷ 0 ∷ 0 ∷ 0 ∷ []; unnamed = false } ≡ refusedGraph e
 unfolding refusedGraph
 refuse-is e = refl
 
-pub tell-is : (row : List ℕ) (u : Bool) → length row ≡ 4 → ((i : ℕ) → Fits w64 (getD row i 0)) → Told row u (record { outcome = Answered; row = row; unnamed = u })
-tell-is row u l f = record { is = refl; by-words = λ p h. words-are p row 4 l (λ i. f i .fits) (λ k b. h k (omega arith)) }
+pub tell-is : (row : List ℕ) (u : Bool) → length row ≡ 8 → ((i : ℕ) → Fits w64 (getD row i 0)) → Told row u (record { outcome = Answered; row = row; unnamed = u })
+tell-is row u l f = record { is = refl; by-words = λ p h. words-are p row rowLength l (λ i. f i .fits) (λ k b. h k (omega arith)) }
 
 -- the row of an answer is given by the positions that it holds
-pub own-words : (row : List ℕ) (u : Bool) (r : GraphAnswer) → Told row u r → r .row ≡ words (holds (r .row)) 4
+pub own-words : (row : List ℕ) (u : Bool) (r : GraphAnswer) → Told row u r → r .row ≡ words (holds (r .row)) rowLength
 own-words row u r t =
     let q : r .row ≡ row = ap (λ (x : GraphAnswer). x .row) (t .is) in
-    subst (λ (x : List ℕ). x ≡ words (holds x) 4) (sym q) (t .by-words (holds row) (λ k l. refl))
+    subst (λ (x : List ℕ). x ≡ words (holds x) rowLength) (sym q) (t .by-words (holds row) (λ k l. refl))
 
 -- only a member leads anywhere
-module _ (s : List ℕ) (c : Configuration) (a : ℕ) where
+module _ (s : List ℕ) (c : List ℕ) (a : ℕ) where
   unnamed-counts : readsUnnamedAt s c a ≡ true → hasMember (modules s) c a ≡ true
   unfolding readsUnnamedAt
   unnamed-counts e = and-left (hasMember (modules s) c a) (hasUnnamedEdge (modules s) c a) e
@@ -80,69 +81,69 @@ module _ (r₁ r₂ : ℕ → ℕ → Bool) (u₁ u₂ : ℕ → Bool) (same : (
   pub one-over : (i : ℕ) → LeadsToOne r₁ u₁ i → LeadsToOne r₂ u₂ i
   one-over i x = ⊎-elim (λ y. inl (sym (also i) ∙ y)) (λ y. inr (y .0, leads-over i (y .0) (y .1), sym (also (y .0)) ∙ y .2)) x
 
--- the rows of the modules that are not hidden, and of the members among them
-module _ (s : List ℕ) (n : ℕ) (t : List ℕ) (good : GoodSet s n t) (ws seen own : List ℕ) (hs : Holding seen (isVisible (modules s))) (ho : Holding own (heldBoth n seen ws)) where
+-- the members among the modules that are not hidden
+pub members-among : (c seen all own : List ℕ) → Holding all (memberBit c) → Intersected seen all own → Holding own (countsIn (holds seen) c)
+unfolding countsIn
+members-among c seen all own ha ho = record { each = λ k. ho .both k ∙ rw (ha .each k) }
+
+pub members-are : (s c seen own : List ℕ) → Holding seen (isVisible (modules s)) → Holding own (countsIn (holds seen) c) → Holding own (hasMember (modules s) c)
+unfolding hasMember countsIn
+members-are s c seen own hs ho = record { each = λ k. ho .each k ∙ rw (hs .each k) }
+
+-- the rows of the modules that are not hidden, and of the members among them: what code finds by them is what the words c say
+module _ (s : List ℕ) (n : ℕ) (t : List ℕ) (good : GoodSet s n t) (c seen own : List ℕ) (hs : Holding seen (isVisible (modules s))) (ho : Holding own (countsIn (holds seen) c)) where
   abbrev vis : ℕ → Bool
   vis = isVisible (modules s)
 
   vis-below : (k : ℕ) → vis k ≡ true → k < n
   vis-below k y = omega (arith, visible-in (modules s) k y, set-length s n t good)
 
-  own-is : (k : ℕ) → holds own k ≡ countsAt vis ws k
-  unfolding heldBoth countsAt
-  own-is k = ho .each k ∙ ap (λ (b : Bool). ltb k n && (b && holds ws k)) (hs .each k) ∙ by (vis k) (λ y. rw (y, lt-ltb k n (vis-below k y))) (λ y. rw y (and-false (ltb k n)))
+  own-is : (k : ℕ) → holds own k ≡ hasMember (modules s) c k
+  own-is k = members-are s c seen own hs ho .each k
 
   masked : Masked n seen own
-  unfolding countsAt
+  unfolding hasMember
   masked = record {
     within = λ k e. vis-below k (sym (hs .each k) ∙ e);
-    inside = λ k e. hs .each k ∙ and-left (vis k) (holds ws k) (sym (own-is k) ∙ e);
+    inside = λ k e. hs .each k ∙ and-left (vis k) (memberBit c k) (sym (own-is k) ∙ e);
   }
 
--- what code finds by them is what the configuration says
-module _ (s : List ℕ) (n : ℕ) (t : List ℕ) (good : GoodSet s n t) (c : Configuration) (seen own : List ℕ) (hs : Holding seen (isVisible (modules s))) (ho : Holding own (heldBoth n seen (c .members))) where
   counts-is : (k : ℕ) → countsAt (holds seen) own k ≡ hasMember (modules s) c k
   unfolding countsAt hasMember
-  counts-is k = rw (hs .each k, own-is s n t good (c .members) seen own hs ho k) (by (isVisible (modules s) k) (λ y. rw y) (λ y. rw y))
+  counts-is k = rw (hs .each k, own-is k) (by (isVisible (modules s) k) (λ y. rw y) (λ y. rw y))
 
-  reads-is : (i j : ℕ) → edgeCounts (holds seen) own (c .reads) i j ≡ readsAt s c i j
+  reads-is : (i j : ℕ) → edgeCounts (holds seen) own c i j ≡ readsAt s c i j
   unfolding edgeCounts readsAt hasEdge hasMember
   reads-is i j = rw (counts-is i, hs .each j) (by (isVisible (modules s) i) (λ y. rw y) (λ y. rw y))
 
-  unnamed-is : (i : ℕ) → unnamedCounts (holds seen) own (c .unnamed) i ≡ readsUnnamedAt s c i
+  unnamed-is : (i : ℕ) → unnamedCounts (holds seen) own c i ≡ readsUnnamedAt s c i
   unfolding unnamedCounts readsUnnamedAt hasUnnamedEdge hasMember
   unnamed-is i = rw (counts-is i) (by (isVisible (modules s) i) (λ y. rw y) (λ y. rw y))
 
--- ---- the modules that are not hidden
-
-module _ (s : List ℕ) (n : ℕ) (t : List ℕ) (e : checkSet s ≡ record { answer = Modules n; starts = t }) where
-  pub visible-few : n ≤ 256
-  visible-few = good-set s n t e .few
-
-module _ (s : List ℕ) (n : ℕ) (t : List ℕ) (e : checkSet s ≡ record { answer = Modules n; starts = t }) where
-  pub members-are : (ws seen own : List ℕ) → Holding seen (isVisible (modules s)) → Holding own (heldBoth n seen ws) → Holding own (countsAt (isVisible (modules s)) ws)
-  members-are ws seen own hs ho = record { each = λ k. own-is s n t (good-set s n t e) ws seen own hs ho k }
-
-pub ruleset visible-members-laws = (visible-few, members-are)
+pub visible-few : (s : List ℕ) (n : ℕ) (t : List ℕ) → checkSet s ≡ record { answer = Modules n; starts = t } → n ≤ 512
+visible-few s n t e = good-set s n t e .few
 
 -- ---- the set is checked first
 
-module _ (s : List ℕ) (c : Configuration) (y : Name) (k : Checked) (ek : k ≡ checkSet s) where
+module _ (s : List ℕ) (c : List ℕ) (y : Name) (k : Checked) (ek : k ≡ checkSet s) where
   answer-is : (a : SetAnswer) → k .answer ≡ a → checkSet s .answer ≡ a
   answer-is a h = ap (λ (z : Checked). z .answer) (sym ek) ∙ h
 
   pub readers-refused : (e : ModuleError) (r : GraphAnswer) → k .answer ≡ Set.Refused e → r ≡ refusedGraph e → r ≡ readersOf s c y
   unfolding readersOf readersAnswered
-  readers-refused e r h er = er ∙ sym (ap (readersAnswered s c y) (answer-is (Set.Refused e) h))
+  readers-refused e r h er = er ∙ sym (ap (readersAnswered s c y) (with-refused c (checkSet s .answer) e (answer-is (Set.Refused e) h)))
 
-  pub readers-told : (n : ℕ) (f : Found) (asked : Bool) (own row : List ℕ) (r : GraphAnswer) → k .answer ≡ Modules n
+  pub readers-short : (n : ℕ) (r : GraphAnswer) → k .answer ≡ Modules n → length c < 4616 → r ≡ refusedGraph (OutputTooShort 4616) → r ≡ readersOf s c y
+  unfolding readersOf readersAnswered
+  readers-short n r h l er = er ∙ sym (ap (readersAnswered s c y) (with-few c (checkSet s .answer) n (answer-is (Modules n) h) l))
+
+  pub readers-told : (n : ℕ) (f : Found) (asked : Bool) (own row : List ℕ) (r : GraphAnswer) → k .answer ≡ Modules n → 4616 ≤ length c
       → f ≡ findName (map (nameAt s) (take n (k .starts))) y 0 → asked ≡ sameBytes y allUnnamed
-      → Holding own (countsAt (isVisible (modules s)) (c .members))
-      → Holding row (readerBelow n own (c .reads) (c .unnamed) f asked) → Told row false r → r ≡ readersOf s c y
-  unfolding readersOf readersAnswered readerBelow readerAt isReader countsAt hasMember
-  readers-told n f asked own row r h ef ea ho w t =
+      → Holding own (hasMember (modules s) c) → Holding row (readerBelow n own c f asked) → Told row false r → r ≡ readersOf s c y
+  unfolding readersOf readersAnswered readerBelow readerAt isReader hasMember
+  readers-told n f asked own row r h enough ef ea ho w t =
       t .is ∙ ap (λ (x : List ℕ). record { outcome = Answered; row = x; unnamed = false }) (t .by-words (isReader s c y) each)
-      ∙ sym (ap (readersAnswered s c y) (answer-is (Modules n) h))
+      ∙ sym (ap (readersAnswered s c y) (with-enough c (checkSet s .answer) n (answer-is (Modules n) h) enough))
     where
       good : GoodSet s n (k .starts)
       good = good-set s n (k .starts) (can-set s k ek n h)
@@ -151,40 +152,37 @@ module _ (s : List ℕ) (c : Configuration) (y : Name) (k : Checked) (ek : k ≡
       turned j true e m x z q = rw (lt-ltb j n (omega (arith, visible-in (modules s) j e, set-length s n (k .starts) good)), q refl)
       turned j false e m x z q = and-false (ltb j n)
 
-      each : (j : ℕ) → j < 256 → holds row j ≡ isReader s c y j
+      each : (j : ℕ) → j < 512 → holds row j ≡ isReader s c y j
       each j l = w .each j
           ∙ rw (ef ∙ find-is s n (k .starts) good y, ea, ho .each j)
-          (turned j (isVisible (modules s) j) refl (holds (c .members) j)
-          (passes (edge (c .reads) j) (findModule s y) || (sameBytes y allUnnamed && holds (c .unnamed) j)) (edgeTo s c y j) (λ v. edge-to s c y j v))
+          (turned j (isVisible (modules s) j) refl (memberBit c j)
+          (passes (edgeBit c j) (findModule s y) || (sameBytes y allUnnamed && unnamedBit c j)) (edgeTo s c y j) (λ v. edge-to s c y j v))
 
-  pub reads-refused : (e : ModuleError) (r : GraphAnswer) → k .answer ≡ Set.Refused e → r ≡ refusedGraph e → TransitiveReads s c y r
-  reads-refused e r h er = record {
-    refused = λ e₂ h₂. let q : Set.Refused e ≡ Set.Refused e₂ = sym (answer-is (Set.Refused e) h) ∙ h₂ in let z : e ≡ e₂ = cc in er ∙ ap refusedGraph z;
-    answered = λ n h₂. let q : Set.Refused e ≡ Set.Modules n = sym (answer-is (Set.Refused e) h) ∙ h₂ in clash (cc);
-  }
+  pub reads-refused : (e : ModuleError) (r : GraphAnswer) → k .answer ≡ Set.Refused e → r ≡ refusedGraph e → r ≡ transitiveReads s c y
+  reads-refused e r h er = er ∙ sym (transitive-refused s c y e (with-refused c (checkSet s .answer) e (answer-is (Set.Refused e) h)))
 
-  module _ (n : ℕ) (h : k .answer ≡ Modules n) (m : Found) (em : m ≡ memberIn s (c .members) y) where
+  pub reads-short : (n : ℕ) (r : GraphAnswer) → k .answer ≡ Modules n → length c < 4616 → r ≡ refusedGraph (OutputTooShort 4616) → r ≡ transitiveReads s c y
+  reads-short n r h l er = er ∙ sym (transitive-refused s c y (OutputTooShort 4616) (with-few c (checkSet s .answer) n (answer-is (Modules n) h) l))
+
+  module _ (n : ℕ) (h : k .answer ≡ Modules n) (enough : 4616 ≤ length c) (m : Found) (em : m ≡ memberIn s c y) where
     good : GoodSet s n (k .starts)
     good = good-set s n (k .starts) (can-set s k ek n h)
 
-    module _ (seen own : List ℕ) (hs : Holding seen (isVisible (modules s))) (ho : Holding own (heldBoth n seen (c .members))) where
+    module _ (seen own : List ℕ) (hs : Holding seen (isVisible (modules s))) (ho : Holding own (countsIn (holds seen) c)) where
       pub reads-masked : Masked n seen own
-      reads-masked = masked s n (k .starts) good (c .members) seen own hs ho
+      reads-masked = masked s n (k .starts) good c seen own hs ho
 
       pub reads-counts : (i : ℕ) → m ≡ At i → countsAt (holds seen) own i ≡ true
       unfolding memberIn
       reads-counts i ei =
-          let p = held-of (c .members) (findModule s y) i (sym em ∙ ei) in
+          let p = held-of c (findModule s y) i (sym em ∙ ei) in
           counts-is s n (k .starts) good c seen own hs ho i ∙ member-bit (modules s) c i (found-visible s y i (p .0)) ∙ p .1
 
-    answered : (r : GraphAnswer) → LedFrom s c y r → TransitiveReads s c y r
-    answered r l = record {
-      refused = λ e h₂. let q : Set.Refused e ≡ Set.Modules n = sym h₂ ∙ answer-is (Modules n) h in clash (cc);
-      answered = λ n₂ h₂. l;
-    }
+    answered : (r : GraphAnswer) → LedFrom s c y r → r ≡ transitiveReads s c y
+    answered r l = led-is s c y n (with-enough c (checkSet s .answer) n (answer-is (Modules n) h) enough) r l
 
-    pub reads-told : (seen own : List ℕ) → Holding seen (isVisible (modules s)) → Holding own (heldBoth n seen (c .members))
-        → (i : ℕ) (r : GraphAnswer) → m ≡ At i → Onward (holds seen) own (c .reads) (c .unnamed) i r → TransitiveReads s c y r
+    pub reads-told : (seen own : List ℕ) → Holding seen (isVisible (modules s)) → Holding own (countsIn (holds seen) c)
+        → (i : ℕ) (r : GraphAnswer) → m ≡ At i → Onward (holds seen) own c i r → r ≡ transitiveReads s c y
     unfolding memberIn
     reads-told seen own hs ho i r ei o = answered r (record {
       outcome = o .outcome;
@@ -196,10 +194,10 @@ module _ (s : List ℕ) (c : Configuration) (y : Name) (k : Checked) (ek : k ≡
     })
       where
         by-code : ℕ → ℕ → Bool
-        by-code = edgeCounts (holds seen) own (c .reads)
+        by-code = edgeCounts (holds seen) own c
 
         un-code : ℕ → Bool
-        un-code = unnamedCounts (holds seen) own (c .unnamed)
+        un-code = unnamedCounts (holds seen) own c
 
         rs : (a b : ℕ) → by-code a b ≡ readsAt s c a b
         rs a b = reads-is s n (k .starts) good c seen own hs ho a b
@@ -214,12 +212,12 @@ module _ (s : List ℕ) (c : Configuration) (y : Name) (k : Checked) (ek : k ≡
         back-us a = sym (us a)
 
         found : findModule s y ≡ At i
-        found = held-of (c .members) (findModule s y) i (sym em ∙ ei) .0
+        found = held-of c (findModule s y) i (sym em ∙ ei) .0
 
         same : (a : ℕ) → findModule s y ≡ At a → a ≡ i
         same a e = let q : At a ≡ At i = sym e ∙ found in cc
 
-    pub reads-none : (row : List ℕ) (r : GraphAnswer) → m ≡ Nothing → Empty row → Told row false r → TransitiveReads s c y r
+    pub reads-none : (row : List ℕ) (r : GraphAnswer) → m ≡ Nothing → Empty row → Told row false r → r ≡ transitiveReads s c y
     unfolding memberIn
     reads-none row r en w t = answered r (record {
       outcome = ap (λ (x : GraphAnswer). x .outcome) (t .is);
@@ -231,37 +229,37 @@ module _ (s : List ℕ) (c : Configuration) (y : Name) (k : Checked) (ek : k ≡
     })
       where
         no-counts : (a : ℕ) → findModule s y ≡ At a → hasMember (modules s) c a ≡ true → ⊥
-        no-counts a e h₂ = true≠false (sym (member-bit (modules s) c a (found-visible s y a e)) ∙ h₂) (not-held-at (c .members) (findModule s y) a e (sym em ∙ en))
+        no-counts a e h₂ = true≠false (sym (member-bit (modules s) c a (found-visible s y a e)) ∙ h₂) (not-held-at c (findModule s y) a e (sym em ∙ en))
 
         no-path : (a j : ℕ) → findModule s y ≡ At a → Leads (readsAt s c) a j → ⊥
         no-path a j e f = no-counts a e (leads-counts s c a j f)
 
-pub ruleset checked-laws = (indexed-none, can-set, can-lookup, readers-refused, reads-refused)
+pub ruleset checked-laws = (indexed-none, can-set, can-lookup, readers-refused, readers-short, reads-refused, reads-short)
 
 -- and of a set that the check takes
 
-module _ (s : List ℕ) (n : ℕ) (t : List ℕ) (e : checkSet s ≡ record { answer = Modules n; starts = t }) (c : Configuration) (y : Name) where
+module _ (s : List ℕ) (n : ℕ) (t : List ℕ) (e : checkSet s ≡ record { answer = Modules n; starts = t }) (c : List ℕ) (enough : wordCount ≤ length c) (y : Name) where
   abbrev taken : Checked
   taken = record { answer = Modules n; starts = t }
 
   pub readers-in : (f : Found) (asked : Bool) (own row : List ℕ) (r : GraphAnswer) → f ≡ findName (map (nameAt s) (take n t)) y 0 → asked ≡ sameBytes y allUnnamed
-      → Holding own (countsAt (isVisible (modules s)) (c .members)) → Holding row (readerBelow n own (c .reads) (c .unnamed) f asked) → Told row false r → r ≡ readersOf s c y
-  readers-in f asked own row r ef ea ho w x = readers-told s c y taken (sym e) n f asked own row r refl ef ea ho w x
+      → Holding own (hasMember (modules s) c) → Holding row (readerBelow n own c f asked) → Told row false r → r ≡ readersOf s c y
+  readers-in f asked own row r ef ea ho w x = readers-told s c y taken (sym e) n f asked own row r refl enough ef ea ho w x
 
-  module _ (m : Found) (em : m ≡ memberIn s (c .members) y) where
-    pub in-none : (row : List ℕ) (r : GraphAnswer) → m ≡ Nothing → Empty row → Told row false r → TransitiveReads s c y r
-    in-none row r en w x = reads-none s c y taken (sym e) n refl m em row r en w x
+  module _ (m : Found) (em : m ≡ memberIn s c y) where
+    pub in-none : (row : List ℕ) (r : GraphAnswer) → m ≡ Nothing → Empty row → Told row false r → r ≡ transitiveReads s c y
+    in-none row r en w x = reads-none s c y taken (sym e) n refl enough m em row r en w x
 
-    module _ (seen own : List ℕ) (hs : Holding seen (isVisible (modules s))) (ho : Holding own (heldBoth n seen (c .members))) where
+    module _ (seen own : List ℕ) (hs : Holding seen (isVisible (modules s))) (ho : Holding own (countsIn (holds seen) c)) where
       pub in-masked : Masked n seen own
-      in-masked = reads-masked s c y taken (sym e) n refl m em seen own hs ho
+      in-masked = reads-masked s c y taken (sym e) n refl enough m em seen own hs ho
 
       pub in-counts : (i : ℕ) → m ≡ At i → countsAt (holds seen) own i ≡ true
-      in-counts i ei = reads-counts s c y taken (sym e) n refl m em seen own hs ho i ei
+      in-counts i ei = reads-counts s c y taken (sym e) n refl enough m em seen own hs ho i ei
 
-      pub in-told : (i : ℕ) (r : GraphAnswer) → m ≡ At i → Onward (holds seen) own (c .reads) (c .unnamed) i r → TransitiveReads s c y r
-      in-told i r ei o = reads-told s c y taken (sym e) n refl m em seen own hs ho i r ei o
+      pub in-told : (i : ℕ) (r : GraphAnswer) → m ≡ At i → Onward (holds seen) own c i r → r ≡ transitiveReads s c y
+      in-told i r ei o = reads-told s c y taken (sym e) n refl enough m em seen own hs ho i r ei o
 
 pub ruleset readers-in-laws = (visible-few, lookup-few, lookup-room, lookup-index, readers-in)
 
-pub ruleset reads-in-laws = (visible-few, in-none, in-masked, in-counts, in-told)
+pub ruleset reads-in-laws = (in-none, in-masked, in-counts, in-told)

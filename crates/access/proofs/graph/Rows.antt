@@ -10,39 +10,39 @@ use Rattle.records.specs.declared.finder.Found.{Found}
 use Rattle.records.specs.declared.finder.Found.the-variants.{At, Nothing}
 use Rattle.records.proofs.Logic.{by, true≠false}
 use Rattle.resolution.specs.Row.{holds, Empty, Added}
-use Rattle.resolution.specs.Graph.{edge, Successors}
+use Rattle.resolution.specs.Configuration.{edgeBit, unnamedBit}
 use Rattle.resolution.specs.Readability.{Holding}
 use Rattle.access.specs.Access.{passes}
-use Rattle.access.specs.GraphSteps.{readerAt, readerBelow, heldBoth}
+use Rattle.access.specs.GraphSteps.{readerAt, readerBelow}
 
 -- ---- who reads what is found
 
 module _ (g : List ℕ) (i : ℕ) (f : Found) where
-  pub found-at : (j : ℕ) (ws : List ℕ) (r : Bool) → f ≡ At j → Successors g i ws → r ≡ holds ws j → r ≡ passes (edge g i) f
+  pub found-at : (j : ℕ) (r : Bool) → f ≡ At j → r ≡ edgeBit g i j → r ≡ passes (edgeBit g i) f
   unfolding passes
-  found-at j ws r e h er = er ∙ h .each j ∙ sym (rw e)
+  found-at j r e er = er ∙ sym (rw e)
 
-  pub found-none : f ≡ Nothing → false ≡ passes (edge g i) f
+  pub found-none : f ≡ Nothing → false ≡ passes (edgeBit g i) f
   unfolding passes
   found-none e = sym (rw e)
 
 pub ruleset found-laws = (found-at, found-none)
 
-module _ (ws g un : List ℕ) (f : Found) (u : Bool) (k : ℕ) (a : Bool) (ea : a ≡ holds ws k) where
-  pub reader-not : not a ≡ true → false ≡ readerAt ws g un f u k
+module _ (ws g : List ℕ) (f : Found) (u : Bool) (k : ℕ) (a : Bool) (ea : a ≡ holds ws k) where
+  pub reader-not : not a ≡ true → false ≡ readerAt ws g f u k
   unfolding readerAt
   reader-not y = sym (rw (← ea, not-true a y))
 
-  module _ (y : not a ≡ false) (e : Bool) (ee : e ≡ passes (edge g k) f) where
-    pub reader-edge : e ≡ true → true ≡ readerAt ws g un f u k
+  module _ (y : not a ≡ false) (e : Bool) (ee : e ≡ passes (edgeBit g k) f) where
+    pub reader-edge : e ≡ true → true ≡ readerAt ws g f u k
     unfolding readerAt
     reader-edge z = sym (rw (← ea, not-false a y, ← ee, z))
 
-    pub reader-unnamed : (r : Bool) → e ≡ false → u ≡ true → r ≡ holds un k → r ≡ readerAt ws g un f u k
+    pub reader-unnamed : (r : Bool) → e ≡ false → u ≡ true → r ≡ unnamedBit g k → r ≡ readerAt ws g f u k
     unfolding readerAt
     reader-unnamed r z w er = er ∙ sym (rw (← ea, not-false a y, ← ee, z, w))
 
-    pub reader-none : e ≡ false → u ≡ false → false ≡ readerAt ws g un f u k
+    pub reader-none : e ≡ false → u ≡ false → false ≡ readerAt ws g f u k
     unfolding readerAt
     reader-none z w = sym (rw (← ea, not-false a y, ← ee, z, w))
 
@@ -78,7 +78,7 @@ module _ (p : ℕ → Bool) (n : ℕ) (ws : List ℕ) where
       later = λ j b. h .later j (omega arith);
     }
 
-    pub passed-more : n ≤ 256 → (after : List ℕ) → k < n → p k ≡ true → Added ws k after → PassedAt p n after (k + 1)
+    pub passed-more : n ≤ 512 → (after : List ℕ) → k < n → p k ≡ true → Added ws k after → PassedAt p n after (k + 1)
     passed-more m after l f a = record {
       within = omega arith;
       so-far = λ j b. added j ∙ by (eqb j k)
@@ -90,46 +90,20 @@ module _ (p : ℕ → Bool) (n : ℕ) (ws : List ℕ) where
         added : (j : ℕ) → holds after j ≡ holds ws j || eqb j k
         added j = a .below (omega arith) j
 
-module _ (ws g un : List ℕ) (f : Found) (u : Bool) (n : ℕ) (row : List ℕ) where
-  pub readers-start : Empty row → PassedAt (readerAt ws g un f u) n row 0
-  readers-start h = passed-start (readerAt ws g un f u) n row h
+module _ (ws g : List ℕ) (f : Found) (u : Bool) (n : ℕ) (row : List ℕ) where
+  pub readers-start : Empty row → PassedAt (readerAt ws g f u) n row 0
+  readers-start h = passed-start (readerAt ws g f u) n row h
 
-  module _ (k : ℕ) (h : PassedAt (readerAt ws g un f u) n row k) where
-    pub readers-end : n ≤ k → Holding row (readerBelow n ws g un f u)
+  module _ (k : ℕ) (h : PassedAt (readerAt ws g f u) n row k) where
+    pub readers-end : n ≤ k → Holding row (readerBelow n ws g f u)
     unfolding readerBelow
-    readers-end l = record { each = λ j. passed-end (readerAt ws g un f u) n row k h l j }
+    readers-end l = record { each = λ j. passed-end (readerAt ws g f u) n row k h l j }
 
-    module _ (l : k < n) (r : Bool) (er : r ≡ readerAt ws g un f u k) where
-      pub readers-not : r ≡ false → PassedAt (readerAt ws g un f u) n row (k + 1)
-      readers-not y = passed-not (readerAt ws g un f u) n row k h l (sym er ∙ y)
+    module _ (l : k < n) (r : Bool) (er : r ≡ readerAt ws g f u k) where
+      pub readers-not : r ≡ false → PassedAt (readerAt ws g f u) n row (k + 1)
+      readers-not y = passed-not (readerAt ws g f u) n row k h l (sym er ∙ y)
 
-      pub readers-more : n ≤ 256 → (after : List ℕ) → r ≡ true → Added row k after → PassedAt (readerAt ws g un f u) n after (k + 1)
-      readers-more m after y a = passed-more (readerAt ws g un f u) n row k h m after l (sym er ∙ y) a
+      pub readers-more : n ≤ 512 → (after : List ℕ) → r ≡ true → Added row k after → PassedAt (readerAt ws g f u) n after (k + 1)
+      readers-more m after y a = passed-more (readerAt ws g f u) n row k h m after l (sym er ∙ y) a
 
 pub ruleset readers-laws = (readers-start, readers-end, readers-not, readers-more)
-
--- the test of both rows
-abbrev pub bothAt : List ℕ → List ℕ → ℕ → Bool
-bothAt seen row k = holds seen k && holds row k
-
-module _ (seen row : List ℕ) (n : ℕ) (out : List ℕ) where
-  pub both-start : Empty out → PassedAt (bothAt seen row) n out 0
-  both-start h = passed-start (bothAt seen row) n out h
-
-  module _ (k : ℕ) (h : PassedAt (bothAt seen row) n out k) where
-    pub both-end : n ≤ k → Holding out (heldBoth n seen row)
-    unfolding heldBoth
-    both-end l = record { each = λ j. passed-end (bothAt seen row) n out k h l j }
-
-    module _ (l : k < n) (a : Bool) (ea : a ≡ holds seen k) where
-      pub both-hidden : a ≡ false → PassedAt (bothAt seen row) n out (k + 1)
-      both-hidden y = passed-not (bothAt seen row) n out k h l (rw (← ea, y))
-
-      module _ (x : a ≡ true) (r : Bool) (er : r ≡ holds row k) where
-        pub both-not : r ≡ false → PassedAt (bothAt seen row) n out (k + 1)
-        both-not y = passed-not (bothAt seen row) n out k h l (rw (← ea, x) (sym er ∙ y))
-
-        pub both-more : n ≤ 256 → (after : List ℕ) → r ≡ true → Added out k after → PassedAt (bothAt seen row) n after (k + 1)
-        both-more m after y d = passed-more (bothAt seen row) n out k h m after l (rw (← ea, x) (sym er ∙ y)) d
-
-pub ruleset both-laws = (both-start, both-end, both-hidden, both-not, both-more)

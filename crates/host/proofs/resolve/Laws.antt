@@ -1,19 +1,18 @@
 -- What each return of checking and resolving shows.
-use Prim.Native.Nat.{ℕ, _≤_, _<_}
-use mathlib.Core.Path.{_≡_, _∙_}
-use mathlib.Core.List.{List, [], _∷_, _++_}
-use lib.ListN.{length, drop}
-use borrow.Author.Tests.{lt-ltb, le-ltb}
+use Prim.Native.Nat.{ℕ}
+use mathlib.Core.Path.{_≡_, refl}
+use mathlib.Core.List.{List, [], _∷_}
 use Rattle.records.specs.Request.{checkInputs}
 use Rattle.records.specs.declared.error.ModuleError.{ModuleError}
 use Rattle.records.specs.declared.set.Checked.{Checked}
 use Rattle.records.specs.declared.set.SetAnswer.the-variants as Set
+use Rattle.resolution.specs.Configuration.{memberWords}
+use Rattle.resolution.specs.Resolve.{ResolveResult}
 use Rattle.resolution.specs.Row.{size}
+use Rattle.resolution.specs.declared.resolve.Outcome.{Outcome}
 use Rattle.resolution.specs.declared.resolve.Outcome.the-variants as Outcome
-use Rattle.resolution.specs.declared.resolve.Resolution.{Resolution}
-use Rattle.host.specs.Host.{setReply, outcomeReply, wordsAfter, Resolved}
-use Rattle.host.specs.Reply.{answered, refused, tooFew, Told}
-use Rattle.host.specs.Words.{wordsOf}
+use Rattle.host.specs.Host.{setReply, outcomeReply, Resolved}
+use Rattle.host.specs.Reply.{answered, refused, Told}
 
 -- ---- checking
 
@@ -30,25 +29,17 @@ pub ruleset check-laws = (check-modules, check-refused)
 
 -- ---- resolving
 
-module _ (result : Resolution) (before particulars : List ℕ) (r : ℕ) where
-  pub tell-refused : (e : ModuleError) → result .outcome ≡ Outcome.Refused e → Told (refused e) particulars r
-      → Resolved result before before particulars r
-  unfolding outcomeReply wordsAfter
-  tell-refused e h t = record { reply = rw h t; words = rw h }
+module _ (o : Outcome) (ws particulars : List ℕ) (r : ℕ) where
+  pub tell-refused : (e : ModuleError) → o ≡ Outcome.Refused e → Told (refused e) particulars r → Told (outcomeReply ws o) particulars r
+  unfolding outcomeReply
+  tell-refused e h t = rw h t
 
-  pub tell-few : result .outcome ≡ Outcome.Accepted → length before < 1032 → Told (tooFew 1032) particulars r
-      → Resolved result before before particulars r
-  unfolding outcomeReply wordsAfter
-  tell-few h l t = record { reply = rw (h, lt-ltb (length before) 1032 l) t; words = rw (h, lt-ltb (length before) 1032 l) }
+  pub tell-accepted : (n : ℕ) → o ≡ Outcome.Accepted → n ≡ size (memberWords ws) → Told (answered (n ∷ [])) particulars r → Told (outcomeReply ws o) particulars r
+  unfolding outcomeReply
+  tell-accepted n h en t = rw (h, ← en) t
 
-  pub tell-accepted : (after : List ℕ) (n : ℕ) → result .outcome ≡ Outcome.Accepted → 1032 ≤ length before
-      → after ≡ wordsOf (result .configuration) ++ drop 1032 before → n ≡ size (result .configuration .members)
-      → Told (answered (n ∷ [])) particulars r → Resolved result before after particulars r
-  unfolding outcomeReply wordsAfter
-  tell-accepted after n h l e en t = record { reply = rw (h, le-ltb (length before) 1032 l, ← en) t; words = e ∙ rw (h, le-ltb (length before) 1032 l) }
+pub ruleset tell-laws = (tell-refused, tell-accepted)
 
-pub ruleset tell-laws = (tell-refused, tell-few, tell-accepted)
-
-pub resolved-is : (result result′ : Resolution) (before after particulars : List ℕ) (r : ℕ) → result ≡ result′
-    → Resolved result before after particulars r → Resolved result′ before after particulars r
-resolved-is result result′ before after particulars r e h = rw (← e) h
+pub resolved-is : (result : ResolveResult) (o : Outcome) (after particulars : List ℕ) (r : ℕ) → result ≡ record { outcome = o; words = after }
+    → Told (outcomeReply after o) particulars r → Resolved result after particulars r
+resolved-is result o after particulars r e t = rw e (record { reply = t; words = refl })

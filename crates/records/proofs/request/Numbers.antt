@@ -12,7 +12,7 @@ use Rattle.records.specs.Error.{numberOf}
 use Rattle.records.specs.Name.{allUnnamed, memName}
 use Rattle.records.specs.Record.{markOf, bodyOf, records, setKind, kindIn, isBody}
 use Rattle.records.specs.Request.{checkRecords, checkRecordsFrom, checkInputs, thenRequest, noneOnce, rowOf, rowOn, pickAnswer}
-use Rattle.records.specs.Set.{Passed, checkSet, checkFrom, judgeAt, passAt, admitAt, enterAt, isPlaced, goOn, pickChecked, pickVerdict, refused, accepted, noneYet, nameAt}
+use Rattle.records.specs.Set.{Passed, checkSet, checkFrom, judgeAt, passAt, admitAt, enterAt, isPlaced, goOn, pickChecked, pickVerdict, refused, accepted, noneYet, nameAt, moduleLimit}
 use Rattle.records.specs.declared.error.Input.{Input}
 use Rattle.records.specs.declared.error.Input.the-variants as Input
 use Rattle.records.specs.declared.error.ModuleError.{ModuleError}
@@ -66,7 +66,7 @@ pick-answer false x y h k = k
 pass-number : (s : List ℕ) (p : Passed) (at : ℕ) (k : Kind) (b : List ℕ) → OfVerdict (passAt s p at k b)
 unfolding passAt admitAt enterAt numberOf
 pass-number s p at Module b =
-    pick-verdict (leb 256 (length (p .starts))) (Stop (TooLarge at))
+    pick-verdict (leb moduleLimit (length (p .starts))) (Stop (TooLarge at))
     (pickVerdict (sameBytes (moduleName b) allUnnamed || memName (moduleName b) (map (nameAt s) (p .here))) (Stop (Repeated at)) Start) (omega arith)
     (pick-verdict (sameBytes (moduleName b) allUnnamed || memName (moduleName b) (map (nameAt s) (p .here))) (Stop (Repeated at)) Start (omega arith) tt)
 pass-number s p at Requires b = tt

@@ -13,7 +13,7 @@ use Rattle.records.specs.Bytes.{sameBytes}
 use Rattle.records.specs.Name.{allUnnamed, memName}
 use Rattle.records.specs.Record.{markOf, bodyOf, records, recordsFrom, setKind, isBody}
 use Rattle.records.specs.Descriptor.{moduleName, descriptorOf}
-use Rattle.records.specs.Set.{Passed, noneYet, withModule, withMain, nameAt, accepted, checkFrom, checkSet, upToNext, blocksOf, blocks}
+use Rattle.records.specs.Set.{Passed, noneYet, withModule, withMain, nameAt, accepted, checkFrom, checkSet, upToNext, blocksOf, blocks, moduleLimit}
 use Rattle.records.specs.Places.{hasPlace, namesIn, distinct}
 use Rattle.records.specs.declared.record.Kind.the-variants.{Module, MainClass}
 use Rattle.records.specs.declared.set.SetAnswer.the-variants.{Modules}
@@ -181,7 +181,7 @@ abbrev Unlike : List ℕ → List ℕ → List (List ℕ) → Type 0
 Unlike s here bs = (n : List ℕ) → memName n (namesIn bs) ≡ true → memName n (map (nameAt s) here) ≡ false
 
 joined-pass : (s : List ℕ) (bs : List (List ℕ)) (p : Passed) (at : ℕ) → AllGood bs → drop at s ≡ flatten bs → at + length (flatten bs) ≡ length s
-    → Unlike s (p .here) bs → distinct (namesIn bs) ≡ true → length (p .starts) + length bs ≤ 256
+    → Unlike s (p .here) bs → distinct (namesIn bs) ≡ true → length (p .starts) + length bs ≤ moduleLimit
     → (l : List ℕ) × (checkFrom s p at (records (flatten bs)) ≡ accepted l (length s))
 unfolding flatten checkFrom distinct memName records recordsFrom
 joined-pass s [] p at h d u a e l = (p .starts, rw (eq-eqb at (length s) (omega (arith, u))))
@@ -231,7 +231,7 @@ joined-pass s (b ∷ bs) p at h d u a e l =
         let other : sameBytes name n ≡ false = not-same (namesIn bs) name n (not-true (memName name (namesIn bs)) (and-left (not (memName name (namesIn bs))) (distinct (namesIn bs)) once)) k in
         rw (w .here, map-append (nameAt s) (p .here) (at ∷ []), named-at) (mem-not-last n (map (nameAt s) (p .here)) name (a n (or-right (sameBytes (descriptorOf b .name) n) (memName n (namesIn bs)) k)) other)
 
-    few : length (w .to .starts) + length bs ≤ 256
+    few : length (w .to .starts) + length bs ≤ moduleLimit
     few = rw (w .starts, length-append) (omega (arith, l))
 
 -- the check takes them, they are the blocks of that set, and it has no PL
@@ -241,7 +241,7 @@ pub record Joined (bs : List (List ℕ)) : Type 0 where
   pub blocks-are : blocks (flatten bs) ≡ bs
   pub one-place : hasPlace (records (flatten bs)) ≡ false
 
-pub joined : (bs : List (List ℕ)) → ((b : List ℕ) → List·Memᴰ b bs → GoodBlock b) → distinct (namesIn bs) ≡ true → length bs ≤ 256 → length (flatten bs) ≤ 65535 → Joined bs
+pub joined : (bs : List (List ℕ)) → ((b : List ℕ) → List·Memᴰ b bs → GoodBlock b) → distinct (namesIn bs) ≡ true → length bs ≤ moduleLimit → length (flatten bs) ≤ 65535 → Joined bs
 unfolding checkSet blocks memName
 joined bs h e few short =
     let v : List ℕ = flatten bs in

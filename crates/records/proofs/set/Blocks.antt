@@ -14,7 +14,7 @@ use Rattle.records.specs.Bytes.{sameBytes}
 use Rattle.records.specs.Name.{allUnnamed, memName}
 use Rattle.records.specs.Record.{markOf, markFor, bodyOf, recordMore, whole, records, recordsFrom, isOf, bodiesIn, bodies}
 use Rattle.records.specs.Descriptor.{Descriptor, moduleName, headerOf, descriptorOf}
-use Rattle.records.specs.Set.{Passed, nameAt, tableOf, checkSet, upToNext, blocksOf, blocks, blockAt, modules}
+use Rattle.records.specs.Set.{Passed, nameAt, tableOf, checkSet, upToNext, blocksOf, blocks, blockAt, modules, moduleLimit}
 use Rattle.records.specs.declared.record.Kind.{Kind}
 use Rattle.records.specs.declared.record.Kind.the-variants.{Module, Requires, Exports, Opens, Uses, Provides, Package, MainClass, Place}
 use Rattle.records.specs.declared.set.SetAnswer.the-variants.{Modules}
@@ -242,7 +242,7 @@ none-unnamed s (a ∷ l) e = go (sameBytes (nameAt s a) allUnnamed) (none-unname
 -- what upper layers know of it: n modules, by the table t
 pub record GoodSet (s : List ℕ) (n : ℕ) (t : List ℕ) : Type 0 where
   pub short : length s ≤ 65535
-  pub few : n ≤ 256
+  pub few : n ≤ moduleLimit
   pub count : n ≡ length (blocks s)
   pub block-is : (i : ℕ) → i < n → descriptorOf (blockAt s t i) ≡ getD (modules s) i (descriptorOf [])
   pub names : map (nameAt s) (take n t) ≡ map (λ (m : Descriptor). m .name) (modules s)
@@ -255,7 +255,7 @@ good-set s n t e = record {
   few = k .few;
   count = k .count ∙ sym (parts-length s (startsOf s) (length s)) ∙ ap length cut ∙ sym (length-map (runsOf (records s)) descriptorOf) ∙ ap length (says) ∙ length-map (blocksOf (records s)) descriptorOf;
   block-is = λ i l.
-      ap descriptorOf (rw (k .table) (table-part s (startsOf s) (length s) (replicate (256 - length (startsOf s)) 0) i (omega (arith, l, k .count))) ∙ ap (λ (p : List (List ℕ)). getD p i []) cut)
+      ap descriptorOf (rw (k .table) (table-part s (startsOf s) (length s) (replicate (moduleLimit - length (startsOf s)) 0) i (omega (arith, l, k .count))) ∙ ap (λ (p : List (List ℕ)). getD p i []) cut)
       ∙ sym (List·getD-map descriptorOf (runsOf (records s)) i [])
       ∙ ap (λ (l : List Descriptor). getD l i (descriptorOf [])) (says);
   names = same-names;
@@ -272,7 +272,7 @@ good-set s n t e = record {
     cut = parted s s .parts 0 refl (omega (arith, k .used))
 
     front : take n t ≡ startsOf s
-    front = rw (k .table, k .count) (take-append-seam (startsOf s) (length s ∷ replicate (256 - length (startsOf s)) 0))
+    front = rw (k .table, k .count) (take-append-seam (startsOf s) (length s ∷ replicate (moduleLimit - length (startsOf s)) 0))
 
     same-names : map (nameAt s) (take n t) ≡ map (λ (m : Descriptor). m .name) (modules s)
     same-names = rw front (parted s s .names 0 refl ∙ sym (map-map (λ (m : Descriptor). m .name) descriptorOf (runsOf (records s))) ∙ ap (map (λ (m : Descriptor). m .name)) (says))

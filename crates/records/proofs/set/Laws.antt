@@ -16,7 +16,7 @@ use Rattle.records.specs.Name.{allUnnamed, nameOf, memName}
 use Rattle.records.specs.Record.{records, stepAt, setKind, isBody}
 use Rattle.records.specs.Descriptor.{moduleName}
 use Rattle.records.specs.Finder.{findName}
-use Rattle.records.specs.Set.{Passed, hereOf, passedOf, nameAt, isPlaced, admitAt, enterAt, placesAt, passAt, judgeAt, pickVerdict, tableOf, refused, accepted, goOn, checkFrom, checkSet, blockAt, bodyAt}
+use Rattle.records.specs.Set.{Passed, hereOf, passedOf, nameAt, isPlaced, admitAt, enterAt, placesAt, passAt, judgeAt, pickVerdict, tableOf, refused, accepted, goOn, checkFrom, checkSet, blockAt, bodyAt, moduleLimit, startsLength}
 use Rattle.records.specs.Sorted.{Indexed, Added, leaves, Kept, IndexedSet}
 use Rattle.records.specs.declared.record.Cursor.{Cursor}
 use Rattle.records.specs.declared.record.Step.{Step}
@@ -125,13 +125,13 @@ module _ (s t : List ℕ) (n : Seen) (at : ℕ) (b : List ℕ) (few : n .count �
   counted : length (take (n .count) t) ≡ n .count
   counted = length-take-le (n .count) t few
 
-  pub admit-full : 256 ≤ n .count → Stop (TooLarge at) ≡ admitAt s (passedOf t n) at b
+  pub admit-full : moduleLimit ≤ n .count → Stop (TooLarge at) ≡ admitAt s (passedOf t n) at b
   unfolding admitAt
-  admit-full l = rw (counted, le-leb 256 (n .count) l)
+  admit-full l = rw (counted, le-leb moduleLimit (n .count) l)
 
-  module _ (l : n .count < 256) (u m : List ℕ) (eu : u ≡ drop 3 b) (em : m ≡ nameOf u) (r : Bool) (er : r ≡ sameBytes m allUnnamed) where
-    room : leb 256 (length (take (n .count) t)) ≡ false
-    room = rw (counted) (lt-leb 256 (n .count) l)
+  module _ (l : n .count < moduleLimit) (u m : List ℕ) (eu : u ≡ drop 3 b) (em : m ≡ nameOf u) (r : Bool) (er : r ≡ sameBytes m allUnnamed) where
+    room : leb moduleLimit (length (take (n .count) t)) ≡ false
+    room = rw (counted) (lt-leb moduleLimit (n .count) l)
 
     named : m ≡ moduleName b
     unfolding moduleName
@@ -255,7 +255,7 @@ module _ (s t : List ℕ) (i : ℕ) where
 
 pub ruleset block-laws = (block-none, block-turned, block-is)
 
-pub refused-is : (e : ModuleError) → record { answer = Refused e; starts = replicate 257 0 } ≡ refused e
+pub refused-is : (e : ModuleError) → record { answer = Refused e; starts = replicate startsLength 0 } ≡ refused e
 unfolding refused
 refused-is e = refl
 
@@ -266,11 +266,11 @@ refused-is e = refl
 pub record CheckAt (s : List ℕ) (at : ℕ) (t index : List ℕ) (n : Seen) : Type 0 where
   pub within : at ≤ length s
   pub short : length s ≤ 65535
-  pub few : n .count ≤ 256
+  pub few : n .count ≤ moduleLimit
   pub parted : n .first ≤ n .count
   pub begun : n .places ≤ at + 1
-  pub zeros : t ≡ take (n .count) t ++ replicate (257 - n .count) 0
-  pub long : length t ≡ 257
+  pub zeros : t ≡ take (n .count) t ++ replicate (startsLength - n .count) 0
+  pub long : length t ≡ startsLength
   pub by : Indexed (map (nameAt s) (take (n .count) t)) index
   pub left : checkSet s ≡ checkFrom s (passedOf t n) at (records (drop at s))
 
@@ -278,7 +278,7 @@ pub check-long : (s : List ℕ) (r : Checked) → 65535 < length s → r ≡ ref
 unfolding checkSet
 check-long s r l e = e ∙ sym (rw (lt-ltb 65535 (length s) l))
 
-pub check-start : (s index : List ℕ) → length s ≤ 65535 → Indexed [] index → CheckAt s 0 (replicate 257 0) index (record { count = 0; first = 0; places = 1; main = false })
+pub check-start : (s index : List ℕ) → length s ≤ 65535 → Indexed [] index → CheckAt s 0 (replicate startsLength 0) index (record { count = 0; first = 0; places = 1; main = false })
 unfolding checkSet
 check-start s index l x = record {
   within = omega arith;
@@ -292,16 +292,16 @@ check-start s index l x = record {
   left = rw (le-ltb 65535 (length s) l);
 }
 
-admit-room : (s : List ℕ) (p : Passed) (at : ℕ) (b : List ℕ) → admitAt s p at b ≡ Start → length (p .starts) < 256
+admit-room : (s : List ℕ) (p : Passed) (at : ℕ) (b : List ℕ) → admitAt s p at b ≡ Start → length (p .starts) < moduleLimit
 unfolding admitAt
-admit-room s p at b e = go (leb 256 (length (p .starts))) refl e
+admit-room s p at b e = go (leb moduleLimit (length (p .starts))) refl e
   where
     rest : Verdict
     rest = pickVerdict (sameBytes (moduleName b) allUnnamed || memName (moduleName b) (map (nameAt s) (p .here))) (Stop (Repeated at)) Start
 
-    go : (c : Bool) → leb 256 (length (p .starts)) ≡ c → pickVerdict c (Stop (TooLarge at)) rest ≡ Start → length (p .starts) < 256
+    go : (c : Bool) → leb moduleLimit (length (p .starts)) ≡ c → pickVerdict c (Stop (TooLarge at)) rest ≡ Start → length (p .starts) < moduleLimit
     go true ec h = clash (cc)
-    go false ec h = leb-false 256 (length (p .starts)) ec
+    go false ec h = leb-false moduleLimit (length (p .starts)) ec
 
 enter-not : (p : Passed) (at : ℕ) → enterAt p at ≡ Start → ⊥
 unfolding enterAt
@@ -311,7 +311,7 @@ enter-not p at e = go (leb 8 (p .places)) e
     go true h = clash (cc)
     go false h = clash (cc)
 
-passed-room : (s : List ℕ) (p : Passed) (at : ℕ) (k : Kind) (b : List ℕ) → passAt s p at k b ≡ Start → length (p .starts) < 256
+passed-room : (s : List ℕ) (p : Passed) (at : ℕ) (k : Kind) (b : List ℕ) → passAt s p at k b ≡ Start → length (p .starts) < moduleLimit
 unfolding passAt
 passed-room s p at Module b e = admit-room s p at b e
 passed-room s p at Requires b e = clash (cc)
@@ -331,21 +331,21 @@ passed-room s p at Static b e = clash (cc)
 passed-room s p at Other b e = clash (cc)
 
 -- a Start is given only where the table has room
-start-room : (s : List ℕ) (p : Passed) (at : ℕ) (k : Kind) (b : List ℕ) → judgeAt s p at k b ≡ Start → length (p .starts) < 256
+start-room : (s : List ℕ) (p : Passed) (at : ℕ) (k : Kind) (b : List ℕ) → judgeAt s p at k b ≡ Start → length (p .starts) < moduleLimit
 unfolding judgeAt
 start-room s p at k b e = go (isPlaced (length (p .here)) (p .main) k && isBody k b) e
   where
-    go : (c : Bool) → pickVerdict c (passAt s p at k b) (Stop (Malformed Set at)) ≡ Start → length (p .starts) < 256
+    go : (c : Bool) → pickVerdict c (passAt s p at k b) (Stop (Malformed Set at)) ≡ Start → length (p .starts) < moduleLimit
     go true h = passed-room s p at k b h
     go false h = clash (cc)
 
-table-more : (t : List ℕ) (count at : ℕ) → count < 257 → length t ≡ 257 → t ≡ take count t ++ replicate (257 - count) 0
-    → set t count at ≡ take count t ++ (at ∷ replicate (256 - count) 0)
+table-more : (t : List ℕ) (count at : ℕ) → count < startsLength → length t ≡ startsLength → t ≡ take count t ++ replicate (startsLength - count) 0
+    → set t count at ≡ take count t ++ (at ∷ replicate (moduleLimit - count) 0)
 table-more t count at l e z =
-    let n : 257 - count ≡ suc (256 - count) = omega arith in
+    let n : startsLength - count ≡ suc (moduleLimit - count) = omega arith in
     let p : length (take count t) ≡ count = length-take-le count t (omega arith) in
-    let w : t ≡ take count t ++ (0 ∷ replicate (256 - count) 0) = z ∙ rw n in
-    ap (λ (x : List ℕ). set x count at) w ∙ set-at (take count t) 0 (replicate (256 - count) 0) at count p
+    let w : t ≡ take count t ++ (0 ∷ replicate (moduleLimit - count) 0) = z ∙ rw n in
+    ap (λ (x : List ℕ). set x count at) w ∙ set-at (take count t) 0 (replicate (moduleLimit - count) 0) at count p
 
 -- an entry more at the end of the table, and what that leaves of the present place
 module _ (t : List ℕ) (n : Seen) (parted : n .first ≤ n .count) (few : n .count < length t) (x : ℕ) where
@@ -361,7 +361,7 @@ module _ (s : List ℕ) (at : ℕ) (t index : List ℕ) (n : Seen) (h : CheckAt 
   pub check-room : n .count ≤ length t
   check-room = omega (arith, h .few, h .long)
 
-  pub check-fits : n .count < 257
+  pub check-fits : n .count < startsLength
   check-fits = omega (arith, h .few)
 
   module _ (mark start len : ℕ) (next : Cursor) (er : step ≡ Record mark start len next)
@@ -411,12 +411,12 @@ module _ (s : List ℕ) (at : ℕ) (t index : List ℕ) (n : Seen) (h : CheckAt 
       unfolding goOn placesAt leaves
       check-enter f l = record { within = inside; short = h .short; few = h .few; parted = omega arith; begun = more; zeros = h .zeros; long = h .long; by = kept-by index′ kp (rw f); left = turn ∙ rw (f, lt-ltb 0 at l, nobody) }
 
-    pub check-few : v ≡ Start → n .count < 256
+    pub check-few : v ≡ Start → n .count < moduleLimit
     check-few f =
-        let q : length (take (n .count) t) < 256 = start-room s (passedOf t n) at (setKind mark) (take len (drop start s)) (sym ev ∙ f) in
+        let q : length (take (n .count) t) < moduleLimit = start-room s (passedOf t n) at (setKind mark) (take len (drop start s)) (sym ev ∙ f) in
         omega (arith, q, length-take-le (n .count) t (omega (arith, h .few, h .long)))
 
-    pub check-start-fits : v ≡ Start → n .count + 1 ≤ 256
+    pub check-start-fits : v ≡ Start → n .count + 1 ≤ moduleLimit
     check-start-fits f = omega (arith, check-few f)
 
     name-here : nameAt s at ≡ moduleName (take len (drop start s))
@@ -427,10 +427,10 @@ module _ (s : List ℕ) (at : ℕ) (t index : List ℕ) (n : Seen) (h : CheckAt 
         → CheckAt s (next .at) (set t (n .count) at) index′ (record { count = n .count + 1; first = n .first; places = n .places; main = false })
     unfolding goOn
     check-module index′ kp f =
-        let k : n .count < 256 = check-few f in
-        let w : set t (n .count) at ≡ take (n .count) t ++ (at ∷ replicate (256 - n .count) 0) = table-more t (n .count) at (omega arith) (h .long) (h .zeros) in
+        let k : n .count < moduleLimit = check-few f in
+        let w : set t (n .count) at ≡ take (n .count) t ++ (at ∷ replicate (moduleLimit - n .count) 0) = table-more t (n .count) at (omega arith) (h .long) (h .zeros) in
         let q : take (n .count + 1) (set t (n .count) at) ≡ take (n .count) t ++ (at ∷ []) = rw add-one (take-suc-set t (n .count) at (omega (arith, h .long))) in
-        let m : 257 - (n .count + 1) ≡ 256 - n .count = omega arith in
+        let m : startsLength - (n .count + 1) ≡ moduleLimit - n .count = omega arith in
         let d : n .count + 1 - n .first ≡ n .count - n .first + 1 = omega (arith, h .parted) in
         let e : take (n .count - n .first + 1) (drop (n .first) (set t (n .count) at)) ≡ hereOf t n ++ (at ∷ []) = here-more t n (h .parted) (omega (arith, h .long)) at in
         record {
@@ -439,7 +439,7 @@ module _ (s : List ℕ) (at : ℕ) (t index : List ℕ) (n : Seen) (h : CheckAt 
           few = omega arith;
           parted = omega (arith, h .parted);
           begun = omega (arith, more);
-          zeros = rw (q, m) (w ∙ sym (append-snoc (take (n .count) t) at (replicate (256 - n .count) 0)));
+          zeros = rw (q, m) (w ∙ sym (append-snoc (take (n .count) t) at (replicate (moduleLimit - n .count) 0)));
           long = length-set t (n .count) at ∙ h .long;
           by = rw (q, map-append (nameAt s) (take (n .count) t) (at ∷ []), name-here) (kp .start f);
           left = rw (q, d, e) (turn ∙ rw f);
@@ -473,7 +473,7 @@ module _ (s : List ℕ) (at : ℕ) (t index : List ℕ) (n : Seen) (h : CheckAt 
   unfolding checkFrom accepted tableOf
   check-end e =
       let c : length (take (n .count) t) ≡ n .count = length-take-le (n .count) t (omega (arith, h .few, h .long)) in
-      let w : set t (n .count) (length s) ≡ take (n .count) t ++ (length s ∷ replicate (256 - n .count) 0) = table-more t (n .count) (length s) (omega (arith, h .few)) (h .long) (h .zeros) in
+      let w : set t (n .count) (length s) ≡ take (n .count) t ++ (length s ∷ replicate (moduleLimit - n .count) 0) = table-more t (n .count) (length s) (omega (arith, h .few)) (h .long) (h .zeros) in
       sym
       (h .left
       ∙ rw (

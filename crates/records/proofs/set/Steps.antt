@@ -11,7 +11,7 @@ use Rattle.records.specs.Bytes.{sameBytes}
 use Rattle.records.specs.Name.{allUnnamed, memName}
 use Rattle.records.specs.Record.{markOf, bodyOf, recordMore, whole, records, setKind, markFor, isBody, isOf}
 use Rattle.records.specs.Descriptor.{moduleName}
-use Rattle.records.specs.Set.{Passed, noneYet, withModule, withMain, withPlace, bodyAt, nameAt, isPlaced, admitAt, enterAt, passAt, judgeAt, pickVerdict, pickChecked, refused, accepted, goOn, checkFrom, checkSet}
+use Rattle.records.specs.Set.{Passed, noneYet, withModule, withMain, withPlace, bodyAt, nameAt, isPlaced, admitAt, enterAt, passAt, judgeAt, pickVerdict, pickChecked, refused, accepted, goOn, checkFrom, checkSet, moduleLimit}
 use Rattle.records.specs.declared.record.Kind.{Kind}
 use Rattle.records.specs.declared.record.Kind.the-variants.{Module, Requires, Exports, Opens, Uses, Provides, Package, MainClass, Place, Root, LimitModules, AddReads, AddExports, AddOpens, Static, Other}
 use Rattle.records.specs.declared.error.Input.the-variants.{Set}
@@ -76,11 +76,11 @@ inner-kind k e = inner-is k e .kind
 
 -- ---- one record that is not refused
 
--- an MO: at most 256 modules, and a name that is not ALL-UNNAMED and stands in no module of the present place
+-- an MO: at most 512 modules, and a name that is not ALL-UNNAMED and stands in no module of the present place
 pub record Begins (s : List ℕ) (p : Passed) (r : List ℕ) : Type 0 where
   pub kind : setKind (markOf r) ≡ Module
   pub good : isBody Module (bodyOf r) ≡ true
-  pub few : length (p .starts) < 256
+  pub few : length (p .starts) < moduleLimit
   pub named : sameBytes (moduleName (bodyOf r)) allUnnamed ≡ false
   pub new : memName (moduleName (bodyOf r)) (map (nameAt s) (p .here)) ≡ false
 
@@ -151,7 +151,7 @@ not-refused e n t h = let a : Refused e ≡ Modules n = ap (λ (y : Checked). y 
 module _ (s : List ℕ) (p : Passed) (at : ℕ) (r : List ℕ) (f : Passed → Checked) where
   pub step-goes : {p′ : Passed} → Step s p at r p′ → goOn (judgeAt s p at (setKind (markOf r)) (bodyOf r)) p at f ≡ f p′
   unfolding judgeAt isPlaced passAt admitAt enterAt goOn
-  step-goes (begins b) = rw (b .kind, b .good, lt-leb 256 (length (p .starts)) (b .few), b .named, b .new)
+  step-goes (begins b) = rw (b .kind, b .good, lt-leb moduleLimit (length (p .starts)) (b .few), b .named, b .new)
   step-goes (belongs b) =
       let i : Inner (setKind (markOf r)) = inner-is (setKind (markOf r)) (b .kind) in
       rw (i .placed (length (p .here)) (p .main), lt-ltb 0 (length (p .here)) (b .behind), b .good, i .passes s p at (bodyOf r))
@@ -166,15 +166,15 @@ module _ (s : List ℕ) (p : Passed) (at : ℕ) (r : List ℕ) (f : Passed → C
 
     admitted : setKind (markOf r) ≡ Module → isBody Module (bodyOf r) ≡ true → goOn (admitAt s p at (bodyOf r)) p at f ≡ record { answer = Modules n; starts = t } → Goes
     unfolding admitAt goOn
-    admitted k g e = go (leb 256 (length (p .starts))) refl (sameBytes (moduleName (bodyOf r)) allUnnamed) refl (memName (moduleName (bodyOf r)) (map (nameAt s) (p .here))) refl e
+    admitted k g e = go (leb moduleLimit (length (p .starts))) refl (sameBytes (moduleName (bodyOf r)) allUnnamed) refl (memName (moduleName (bodyOf r)) (map (nameAt s) (p .here))) refl e
       where
-        go : (a : Bool) → leb 256 (length (p .starts)) ≡ a → (b : Bool) → sameBytes (moduleName (bodyOf r)) allUnnamed ≡ b → (c : Bool) → memName (moduleName (bodyOf r)) (map (nameAt s) (p .here)) ≡ c
+        go : (a : Bool) → leb moduleLimit (length (p .starts)) ≡ a → (b : Bool) → sameBytes (moduleName (bodyOf r)) allUnnamed ≡ b → (c : Bool) → memName (moduleName (bodyOf r)) (map (nameAt s) (p .here)) ≡ c
             → goOn (pickVerdict a (Stop (TooLarge at)) (pickVerdict (b || c) (Stop (Repeated at)) Start)) p at f ≡ record { answer = Modules n; starts = t } → Goes
         go true ea b eb c ec h = not-refused (TooLarge at) n t h
         go false ea true eb c ec h = not-refused (Repeated at) n t h
         go false ea false eb true ec h = not-refused (Repeated at) n t h
         go false ea false eb false ec h =
-            record { to = withModule p at; step = begins (record { kind = k; good = g; few = leb-false 256 (length (p .starts)) ea; named = eb; new = ec }); left = h }
+            record { to = withModule p at; step = begins (record { kind = k; good = g; few = leb-false moduleLimit (length (p .starts)) ea; named = eb; new = ec }); left = h }
 
     entered : setKind (markOf r) ≡ Place → isBody Place (bodyOf r) ≡ true → goOn (enterAt p at) p at f ≡ record { answer = Modules n; starts = t } → Goes
     unfolding enterAt goOn

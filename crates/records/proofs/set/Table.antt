@@ -8,7 +8,7 @@ use lib.ListN.{length, length-append}
 use Rattle.records.specs.Bytes.{sameBytes}
 use Rattle.records.specs.Name.{allUnnamed}
 use Rattle.records.specs.Record.{records, isOf}
-use Rattle.records.specs.Set.{Passed, nameAt, tableOf, accepted, checkSet}
+use Rattle.records.specs.Set.{Passed, nameAt, tableOf, accepted, checkSet, moduleLimit}
 use Rattle.records.specs.declared.record.Kind.the-variants.{Module}
 use Rattle.records.specs.declared.set.SetAnswer.the-variants.{Modules}
 use Rattle.records.specs.declared.set.Checked.{Checked}
@@ -32,7 +32,7 @@ areNamed s (a ∷ l) = isNamed s a && areNamed s l
 
 record GoodFrom (s starts : List ℕ) (at : ℕ) (rs : List (List ℕ)) (last : List ℕ) : Type 0 where
   all : last ≡ starts ++ startsFrom at rs
-  few : length last ≤ 256
+  few : length last ≤ moduleLimit
   used : at + length (flatten rs) ≡ length s
   named : areNamed s (startsFrom at rs) ≡ true
 
@@ -60,7 +60,7 @@ is-named : {s : List ℕ} {at : ℕ} {r : List ℕ} {p : Passed} → Here s at r
 unfolding isNamed
 is-named h b = rw (name-of h, b .named)
 
-good-from : {s : List ℕ} {p q : Passed} {at : ℕ} {rs : List (List ℕ)} → Walk s p at rs q → length (p .starts) ≤ 256 → GoodFrom s (p .starts) at rs (q .starts)
+good-from : {s : List ℕ} {p q : Passed} {at : ℕ} {rs : List (List ℕ)} → Walk s p at rs q → length (p .starts) ≤ moduleLimit → GoodFrom s (p .starts) at rs (q .starts)
 unfolding startsFrom flatten areNamed
 good-from (end {p = p} {at = at} e) l = record { all = sym (append-nil (p .starts)); few = l; used = omega (arith, e); named = refl }
 good-from (on {p = p} {q = q} {at = at} {r = r} {rs = rs} h (begins b) w) l =
@@ -77,7 +77,7 @@ startsOf s = startsFrom 0 (records s)
 pub record Taken (s : List ℕ) (n : ℕ) (t : List ℕ) : Type 0 where
   pub short : length s ≤ 65535
   pub count : n ≡ length (startsOf s)
-  pub few : n ≤ 256
+  pub few : n ≤ moduleLimit
   pub table : t ≡ tableOf (startsOf s) (length s)
   pub used : length (flatten (records s)) ≡ length s
   pub named : areNamed s (startsOf s) ≡ true

@@ -9,9 +9,10 @@ use lib.Seq.{getD-take, getD-drop, length-take-le, take-take, getD-set-same, get
 use lib.Dec.{eqb}
 use borrow.Author.Tests.{eqb-true, eq-eqb}
 use Rattle.records.specs.Name.{memName}
+use Rattle.records.specs.Set.{moduleLimit}
 use Rattle.records.specs.Order.{shifted}
 use Rattle.records.specs.Keys.{Keys}
-use Rattle.records.specs.Sorted.{namesBy, hasPosition, Gap, entriesIn, tableIn, KeysAt, putAt, Indexed}
+use Rattle.records.specs.Sorted.{namesBy, hasPosition, Gap, entriesIn, tableIn, KeysAt, putAt, Indexed, entriesSlot, firstSlot, tableSlot, indexLength}
 use Rattle.records.proofs.Logic.{true≠false, or-left, or-right, or-cases}
 use Rattle.records.proofs.order.Laws.{length-shifted, set-take, drop-take}
 use Rattle.records.proofs.sorted.Growth.{visible-in, old-name, new-name, sorted-there, sorted-put, sorted-none}
@@ -37,32 +38,32 @@ has-put p i (suc r) (q ∷ l) h f g =
 -- ---- an entry of the table
 
 module _ (names : List (List ℕ)) (index : List ℕ) (h : Indexed names index) where
-  room : length (drop 770 index) ≡ 256
-  room = length-drop 770 index ∙ rw (h .long)
+  room : length (drop tableSlot index) ≡ moduleLimit
+  room = length-drop tableSlot index ∙ rw (h .long)
 
   pub table-long : length (tableIn index) ≡ entriesIn index
   unfolding tableIn
-  table-long = length-take-le (entriesIn index) (drop 770 index) (rw room (omega (arith, h .few, h .most)))
+  table-long = length-take-le (entriesIn index) (drop tableSlot index) (rw room (omega (arith, h .few, h .most)))
 
-  pub table-few : length (tableIn index) ≤ 256
+  pub table-few : length (tableIn index) ≤ moduleLimit
   table-few = rw table-long (omega (arith, h .few, h .most))
 
   pub position-in : (p : ℕ) → hasPosition p (tableIn index) ≡ true → p < length names
   position-in p e = visible-in names p (sym (sorted-exactly names (tableIn index) (h .sorted) p) ∙ e)
 
   module _ (m : ℕ) (mh : m < entriesIn index) where
-    pub entry-index : 770 + m < length index
+    pub entry-index : tableSlot + m < length index
     entry-index = rw (h .long) (omega (arith, h .few, h .most))
 
-    pub entry-at : getD (tableIn index) m 0 ≡ getD index (770 + m) 0
+    pub entry-at : getD (tableIn index) m 0 ≡ getD index (tableSlot + m) 0
     unfolding tableIn
-    entry-at = getD-take (entriesIn index) (drop 770 index) m 0 mh ∙ getD-drop 770 index m 0
+    entry-at = getD-take (entriesIn index) (drop tableSlot index) m 0 mh ∙ getD-drop tableSlot index m 0
 
-    pub entry-in : getD index (770 + m) 0 < length names
+    pub entry-in : getD index (tableSlot + m) 0 < length names
     entry-in = rw entry-at at (position-in (getD (tableIn index) m 0) (has-entry (tableIn index) m (rw table-long mh)))
 
-    pub entry-keys : KeysAt names index (getD index (770 + m) 0)
-    entry-keys = h .keys (getD index (770 + m) 0) (rw entry-at at (has-entry (tableIn index) m (rw table-long mh)))
+    pub entry-keys : KeysAt names index (getD index (tableSlot + m) 0)
+    entry-keys = h .keys (getD index (tableSlot + m) 0) (rw entry-at at (has-entry (tableIn index) m (rw table-long mh)))
 
 -- ---- one position more
 
@@ -91,15 +92,15 @@ above l i j v h = getD-set-other l i j v 0 (omega arith)
 under : (l : List ℕ) (i j v : ℕ) → j < i → getD (set l i v) j 0 ≡ getD l j 0
 under l i j v h = getD-set-other l i j v 0 (omega arith)
 
-module _ (index : List ℕ) (at i k j len : ℕ) (long : length index ≡ 1026) (it : at ≤ entriesIn index) (few : entriesIn index < 256) (ib : i < 256) where
+module _ (index : List ℕ) (at i k j len : ℕ) (long : length index ≡ indexLength) (it : at ≤ entriesIn index) (few : entriesIn index < moduleLimit) (ib : i < moduleLimit) where
   abbrev s0 : List ℕ
-  s0 = shifted index (770 + at) (770 + entriesIn index)
+  s0 = shifted index (tableSlot + at) (tableSlot + entriesIn index)
 
   abbrev s1 : List ℕ
-  s1 = set s0 (770 + at) i
+  s1 = set s0 (tableSlot + at) i
 
   abbrev s3 : List ℕ
-  s3 = set (set s1 768 (entriesIn index + 1)) 769 at
+  s3 = set (set s1 entriesSlot (entriesIn index + 1)) firstSlot at
 
   abbrev s6 : List ℕ
   s6 = set (set (set s3 (3 * i) k) (3 * i + 1) j) (3 * i + 2) len
@@ -108,17 +109,17 @@ module _ (index : List ℕ) (at i k j len : ℕ) (long : length index ≡ 1026) 
   unfolding putAt
   put-is = refl
 
-  long-0 : length s0 ≡ 1026
-  long-0 = length-shifted index (770 + at) (770 + entriesIn index) (omega arith) (rw long (omega arith)) ∙ long
+  long-0 : length s0 ≡ indexLength
+  long-0 = length-shifted index (tableSlot + at) (tableSlot + entriesIn index) (omega arith) (rw long (omega arith)) ∙ long
 
-  long-3 : length s3 ≡ 1026
-  long-3 = length-set (set s1 768 (entriesIn index + 1)) 769 at ∙ length-set s1 768 (entriesIn index + 1) ∙ length-set s0 (770 + at) i ∙ long-0
+  long-3 : length s3 ≡ indexLength
+  long-3 = length-set (set s1 entriesSlot (entriesIn index + 1)) firstSlot at ∙ length-set s1 entriesSlot (entriesIn index + 1) ∙ length-set s0 (tableSlot + at) i ∙ long-0
 
-  pub put-long : length (putAt index at i k j len) ≡ 1026
+  pub put-long : length (putAt index at i k j len) ≡ indexLength
   put-long = rw put-is (length-set (set (set s3 (3 * i) k) (3 * i + 1) j) (3 * i + 2) len ∙ length-set (set s3 (3 * i) k) (3 * i + 1) j ∙ length-set s3 (3 * i) k ∙ long-3)
 
   -- the keys stand in front of the rest
-  behind : (b : ℕ) → 768 ≤ b → getD s6 b 0 ≡ getD s3 b 0
+  behind : (b : ℕ) → entriesSlot ≤ b → getD s6 b 0 ≡ getD s3 b 0
   behind b h =
       above (set (set s3 (3 * i) k) (3 * i + 1) j) (3 * i + 2) b len (omega arith)
       ∙ above (set s3 (3 * i) k) (3 * i + 1) b j (omega arith)
@@ -128,40 +129,40 @@ module _ (index : List ℕ) (at i k j len : ℕ) (long : length index ≡ 1026) 
   unfolding entriesIn
   put-entries =
       rw put-is
-      (behind 768 (omega arith)
-      ∙ under (set s1 768 (entriesIn index + 1)) 769 768 at (omega arith)
-      ∙ getD-set-same s1 768 (entriesIn index + 1) 0 (rw (length-set s0 (770 + at) i, long-0) (omega arith)))
+      (behind entriesSlot (omega arith)
+      ∙ under (set s1 entriesSlot (entriesIn index + 1)) firstSlot entriesSlot at (omega arith)
+      ∙ getD-set-same s1 entriesSlot (entriesIn index + 1) 0 (rw (length-set s0 (tableSlot + at) i, long-0) (omega arith)))
 
-  pub put-first : getD (putAt index at i k j len) 769 0 ≡ at
+  pub put-first : getD (putAt index at i k j len) firstSlot 0 ≡ at
   put-first =
       rw put-is
-      (behind 769 (omega arith)
-      ∙ getD-set-same (set s1 768 (entriesIn index + 1)) 769 at 0 (rw (length-set s1 768 (entriesIn index + 1), length-set s0 (770 + at) i, long-0) (omega arith)))
+      (behind firstSlot (omega arith)
+      ∙ getD-set-same (set s1 entriesSlot (entriesIn index + 1)) firstSlot at 0 (rw (length-set s1 entriesSlot (entriesIn index + 1), length-set s0 (tableSlot + at) i, long-0) (omega arith)))
 
   -- the table with i in its place
-  rest-is : drop 770 s6 ≡ set (shifted (drop 770 index) at (entriesIn index)) at i
+  rest-is : drop tableSlot s6 ≡ set (shifted (drop tableSlot index) at (entriesIn index)) at i
   rest-is =
-      drop-set-lt 770 (set (set s3 (3 * i) k) (3 * i + 1) j) (3 * i + 2) len (omega arith)
-      ∙ drop-set-lt 770 (set s3 (3 * i) k) (3 * i + 1) j (omega arith)
-      ∙ drop-set-lt 770 s3 (3 * i) k (omega arith)
-      ∙ drop-set-lt 770 (set s1 768 (entriesIn index + 1)) 769 at (omega arith)
-      ∙ drop-set-lt 770 s1 768 (entriesIn index + 1) (omega arith)
-      ∙ drop-set-add 770 s0 at i
-      ∙ ap (λ (t : List ℕ). set t at i) (shifted-rest index 770 at (entriesIn index) (rw long (omega arith)))
+      drop-set-lt tableSlot (set (set s3 (3 * i) k) (3 * i + 1) j) (3 * i + 2) len (omega arith)
+      ∙ drop-set-lt tableSlot (set s3 (3 * i) k) (3 * i + 1) j (omega arith)
+      ∙ drop-set-lt tableSlot s3 (3 * i) k (omega arith)
+      ∙ drop-set-lt tableSlot (set s1 entriesSlot (entriesIn index + 1)) firstSlot at (omega arith)
+      ∙ drop-set-lt tableSlot s1 entriesSlot (entriesIn index + 1) (omega arith)
+      ∙ drop-set-add tableSlot s0 at i
+      ∙ ap (λ (t : List ℕ). set t at i) (shifted-rest index tableSlot at (entriesIn index) (rw long (omega arith)))
 
   pub put-table : tableIn (putAt index at i k j len) ≡ take at (tableIn index) ++ (i ∷ drop at (tableIn index))
   unfolding tableIn
   put-table =
-      let f : entriesIn index < length (drop 770 index) = rw (length-drop 770 index, long) (omega arith) in
-      rw (put-entries, put-is, rest-is, set-take (drop 770 index) at (entriesIn index) i it f, take-take at (entriesIn index) (drop 770 index) it, drop-take at (entriesIn index) (drop 770 index))
+      let f : entriesIn index < length (drop tableSlot index) = rw (length-drop tableSlot index, long) (omega arith) in
+      rw (put-entries, put-is, rest-is, set-take (drop tableSlot index) at (entriesIn index) i it f, take-take at (entriesIn index) (drop tableSlot index) it, drop-take at (entriesIn index) (drop tableSlot index))
 
   -- the numbers of the names before i stay
-  front : (b : ℕ) → b < 768 → getD s3 b 0 ≡ getD index b 0
+  front : (b : ℕ) → b < entriesSlot → getD s3 b 0 ≡ getD index b 0
   front b h =
-      under (set s1 768 (entriesIn index + 1)) 769 b at (omega arith)
-      ∙ under s1 768 b (entriesIn index + 1) (omega arith)
-      ∙ under s0 (770 + at) b i (omega arith)
-      ∙ shifted-front index (770 + at) (770 + entriesIn index) b (omega arith) (rw long (omega arith))
+      under (set s1 entriesSlot (entriesIn index + 1)) firstSlot b at (omega arith)
+      ∙ under s1 entriesSlot b (entriesIn index + 1) (omega arith)
+      ∙ under s0 (tableSlot + at) b i (omega arith)
+      ∙ shifted-front index (tableSlot + at) (tableSlot + entriesIn index) b (omega arith) (rw long (omega arith))
 
   pub put-old : (b : ℕ) → b < 3 * i → getD (putAt index at i k j len) b 0 ≡ getD index b 0
   put-old b h =
@@ -195,8 +196,8 @@ module _ (index : List ℕ) (at i k j len : ℕ) (long : length index ≡ 1026) 
 names-longer : (names : List (List ℕ)) (x : List ℕ) → length (names ++ (x ∷ [])) ≡ length names + 1
 names-longer names x = length-append names (x ∷ [])
 
-module _ (names : List (List ℕ)) (index x : List ℕ) (h : Indexed names index) (room : length names < 256) where
-  more : length (names ++ (x ∷ [])) ≤ 256
+module _ (names : List (List ℕ)) (index x : List ℕ) (h : Indexed names index) (room : length names < moduleLimit) where
+  more : length (names ++ (x ∷ [])) ≤ moduleLimit
   more = rw (names-longer names x) (omega arith)
 
   -- the numbers of a position stay those of its name
@@ -220,7 +221,7 @@ module _ (names : List (List ℕ)) (index x : List ℕ) (h : Indexed names index
     place : at ≤ entriesIn index
     place = rw (table-long names index h) at (g .within)
 
-    few : entriesIn index < 256
+    few : entriesIn index < moduleLimit
     few = omega (arith, h .few)
 
     own : KeysAt (names ++ (x ∷ [])) (putAt index at (length names) k j len) (length names)
@@ -253,33 +254,33 @@ module _ (names : List (List ℕ)) (index x : List ℕ) (h : Indexed names index
     }
 
 -- an index of no names
-pub indexed-none : Indexed [] (replicate 1026 0)
+pub indexed-none : Indexed [] (replicate indexLength 0)
 unfolding entriesIn tableIn hasPosition
 indexed-none = record { long = refl; most = omega arith; few = omega arith; first = omega arith; sorted = sorted-none; keys = λ p l. true≠false l refl }
 
 -- another entry is compared first
 module _ (names : List (List ℕ)) (index : List ℕ) (m : ℕ) (h : Indexed names index) where
-  first-kept : (p : ℕ) → p < length names → KeysAt names index p → KeysAt names (set index 769 m) p
+  first-kept : (p : ℕ) → p < length names → KeysAt names index p → KeysAt names (set index firstSlot m) p
   unfolding KeysAt
   first-kept p k q = rw (
-    under index 769 (3 * p) m (omega (arith, h .most)),
-    under index 769 (3 * p + 1) m (omega (arith, h .most)),
-    under index 769 (3 * p + 2) m (omega (arith, h .most)),
+    under index firstSlot (3 * p) m (omega (arith, h .most)),
+    under index firstSlot (3 * p + 1) m (omega (arith, h .most)),
+    under index firstSlot (3 * p + 2) m (omega (arith, h .most)),
   ) q
 
-  first-entries : entriesIn (set index 769 m) ≡ entriesIn index
+  first-entries : entriesIn (set index firstSlot m) ≡ entriesIn index
   unfolding entriesIn
-  first-entries = under index 769 768 m (omega arith)
+  first-entries = under index firstSlot entriesSlot m (omega arith)
 
-  first-table : tableIn (set index 769 m) ≡ tableIn index
+  first-table : tableIn (set index firstSlot m) ≡ tableIn index
   unfolding tableIn
-  first-table = rw (first-entries, drop-set-lt 770 index 769 m (omega arith))
+  first-table = rw (first-entries, drop-set-lt tableSlot index firstSlot m (omega arith))
 
-  pub indexed-first : m < entriesIn index → Indexed names (set index 769 m)
+  pub indexed-first : m < entriesIn index → Indexed names (set index firstSlot m)
   indexed-first l =
-      let f : getD (set index 769 m) 769 0 ≡ m = getD-set-same index 769 m 0 (rw (h .long) (omega arith)) in
+      let f : getD (set index firstSlot m) firstSlot 0 ≡ m = getD-set-same index firstSlot m 0 (rw (h .long) (omega arith)) in
       record {
-        long = length-set index 769 m ∙ h .long;
+        long = length-set index firstSlot m ∙ h .long;
         most = h .most;
         few = rw first-entries (h .few);
         first = rw (first-entries, f) (omega arith);

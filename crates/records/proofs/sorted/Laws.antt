@@ -12,11 +12,11 @@ use mir.Val.{Fits}
 use mir.Facts.{fits-below}
 use borrow.Author.Tests.{lt-ltb, le-ltb}
 use Rattle.records.specs.Bytes.{sameBytes, beforeBytes}
-use Rattle.records.specs.Set.{nameAt}
+use Rattle.records.specs.Set.{nameAt, moduleLimit}
 use Rattle.records.specs.Order.{shifted}
 use Rattle.records.specs.Finder.{findName}
 use Rattle.records.specs.Keys.{standing, pickStanding, Key, Keys, keyStanding, Alike}
-use Rattle.records.specs.Sorted.{nameOfPosition, namesBy, middleOf, byStanding, searchAt, foundIn, searchNine, Held, Gap, Placing, Below, entriesIn, tableIn, KeysAt, putAt, Indexed, Added}
+use Rattle.records.specs.Sorted.{nameOfPosition, namesBy, middleOf, byStanding, searchAt, foundIn, searchTen, Held, Gap, Placing, Below, entriesIn, tableIn, KeysAt, putAt, Indexed, Added, entriesSlot, firstSlot, tableSlot, indexLength}
 use Rattle.records.specs.declared.finder.Found.{Found}
 use Rattle.records.specs.declared.finder.Found.the-variants.{At, Nothing}
 use Rattle.records.specs.declared.keys.Standing.{Standing}
@@ -29,7 +29,7 @@ use Rattle.records.proofs.bytes.Order.{before-total}
 use Rattle.records.proofs.order.Laws.{length-shifted}
 use Rattle.records.proofs.order.Ordered.{mem-there}
 use Rattle.records.proofs.keys.ByteOrder.{keys-before, keys-after, keys-same}
-use Rattle.records.proofs.sorted.Search.{middle-high, reach, beyond, by-at, by-long, placing-there, placing-free, search-first, sorted-nine, gap-new}
+use Rattle.records.proofs.sorted.Search.{middle-high, reach, beyond, by-at, by-long, placing-there, placing-free, search-first, sorted-ten, gap-new}
 use Rattle.records.proofs.sorted.Index.{table-long, table-few, entry-index, entry-at, entry-in, entry-keys, indexed-there, indexed-put, indexed-first}
 
 -- ---- the middle
@@ -64,49 +64,49 @@ module _ (s t : List ℕ) (count : ℕ) (it : count ≤ length t) where
   position-name p h = name-of (take count t) p (rw (length-take-le count t it) h) ∙ ap (nameAt s) (getD-take count t p 0 h)
 
 module _ (s t : List ℕ) (count : ℕ) (index : List ℕ) (it : count ≤ length t) (h : Indexed (map (nameAt s) (take count t)) index) (m : ℕ) (mh : m < entriesIn index) where
-  below-count : getD index (770 + m) 0 < count
+  below-count : getD index (tableSlot + m) 0 < count
   below-count = rw (names-long s t count it) at (entry-in (map (nameAt s) (take count t)) index h m mh)
 
-  pub entry-slot : 770 + m < length index
+  pub entry-slot : tableSlot + m < length index
   entry-slot = entry-index (map (nameAt s) (take count t)) index h m mh
 
-  pub entry-long : length index ≡ 1026
+  pub entry-long : length index ≡ indexLength
   entry-long = h .long
 
-  pub entry-small : getD index (770 + m) 0 < 256
+  pub entry-small : getD index (tableSlot + m) 0 < moduleLimit
   entry-small = omega (arith, entry-in (map (nameAt s) (take count t)) index h m mh, h .most)
 
-  pub entry-start : getD index (770 + m) 0 < length t
+  pub entry-start : getD index (tableSlot + m) 0 < length t
   entry-start = omega (arith, below-count)
 
-  name-is : nameOfPosition (map (nameAt s) (take count t)) (getD index (770 + m) 0) ≡ nameAt s (getD t (getD index (770 + m) 0) 0)
-  name-is = position-name s t count it (getD index (770 + m) 0) below-count
+  name-is : nameOfPosition (map (nameAt s) (take count t)) (getD index (tableSlot + m) 0) ≡ nameAt s (getD t (getD index (tableSlot + m) 0) 0)
+  name-is = position-name s t count it (getD index (tableSlot + m) 0) below-count
 
-  named-keys : Keys (nameAt s (getD t (getD index (770 + m) 0) 0)) (getD index (3 * getD index (770 + m) 0) 0) (getD index (3 * getD index (770 + m) 0 + 1) 0) (getD index (3 * getD index (770 + m) 0 + 2) 0)
+  named-keys : Keys (nameAt s (getD t (getD index (tableSlot + m) 0) 0)) (getD index (3 * getD index (tableSlot + m) 0) 0) (getD index (3 * getD index (tableSlot + m) 0 + 1) 0) (getD index (3 * getD index (tableSlot + m) 0 + 2) 0)
   unfolding KeysAt
   named-keys = rw name-is at (entry-keys (map (nameAt s) (take count t)) index h m mh)
 
-  pub entry-length : getD index (3 * getD index (770 + m) 0 + 2) 0 ≡ length (nameAt s (getD t (getD index (770 + m) 0) 0))
+  pub entry-length : getD index (3 * getD index (tableSlot + m) 0 + 2) 0 ≡ length (nameAt s (getD t (getD index (tableSlot + m) 0) 0))
   entry-length = named-keys .long
 
-  pub entry-name : nameOfPosition (map (nameAt s) (take count t)) (getD (tableIn index) m 0) ≡ nameAt s (getD t (getD index (770 + m) 0) 0)
+  pub entry-name : nameOfPosition (map (nameAt s) (take count t)) (getD (tableIn index) m 0) ≡ nameAt s (getD t (getD index (tableSlot + m) 0) 0)
   entry-name = rw (entry-at (map (nameAt s) (take count t)) index h m mh) name-is
 
   module _ (name : List ℕ) (k j : ℕ) (kk : Key name 0 k) (jj : Key name 8 j) (c : Standing)
-      (ec : c ≡ keyStanding (getD index (3 * getD index (770 + m) 0) 0) (getD index (3 * getD index (770 + m) 0 + 1) 0) k j) where
-    pub entry-alike : c ≡ Same → Alike (nameAt s (getD t (getD index (770 + m) 0) 0)) name
-    entry-alike e = keys-same (nameAt s (getD t (getD index (770 + m) 0) 0)) name
-        (getD index (3 * getD index (770 + m) 0) 0) (getD index (3 * getD index (770 + m) 0 + 1) 0) (getD index (3 * getD index (770 + m) 0 + 2) 0) k j named-keys kk jj (sym ec ∙ e)
+      (ec : c ≡ keyStanding (getD index (3 * getD index (tableSlot + m) 0) 0) (getD index (3 * getD index (tableSlot + m) 0 + 1) 0) k j) where
+    pub entry-alike : c ≡ Same → Alike (nameAt s (getD t (getD index (tableSlot + m) 0) 0)) name
+    entry-alike e = keys-same (nameAt s (getD t (getD index (tableSlot + m) 0) 0)) name
+        (getD index (3 * getD index (tableSlot + m) 0) 0) (getD index (3 * getD index (tableSlot + m) 0 + 1) 0) (getD index (3 * getD index (tableSlot + m) 0 + 2) 0) k j named-keys kk jj (sym ec ∙ e)
 
     pub entry-before : c ≡ Before → Before ≡ standing (nameOfPosition (map (nameAt s) (take count t)) (getD (tableIn index) m 0)) name
-    entry-before e = sym (rw entry-name (keys-before (nameAt s (getD t (getD index (770 + m) 0) 0)) name
-        (getD index (3 * getD index (770 + m) 0) 0) (getD index (3 * getD index (770 + m) 0 + 1) 0) (getD index (3 * getD index (770 + m) 0 + 2) 0) k j named-keys kk jj (sym ec ∙ e)))
+    entry-before e = sym (rw entry-name (keys-before (nameAt s (getD t (getD index (tableSlot + m) 0) 0)) name
+        (getD index (3 * getD index (tableSlot + m) 0) 0) (getD index (3 * getD index (tableSlot + m) 0 + 1) 0) (getD index (3 * getD index (tableSlot + m) 0 + 2) 0) k j named-keys kk jj (sym ec ∙ e)))
 
     pub entry-after : c ≡ After → After ≡ standing (nameOfPosition (map (nameAt s) (take count t)) (getD (tableIn index) m 0)) name
-    entry-after e = sym (rw entry-name (keys-after (nameAt s (getD t (getD index (770 + m) 0) 0)) name
-        (getD index (3 * getD index (770 + m) 0) 0) (getD index (3 * getD index (770 + m) 0 + 1) 0) (getD index (3 * getD index (770 + m) 0 + 2) 0) k j named-keys kk jj (sym ec ∙ e)))
+    entry-after e = sym (rw entry-name (keys-after (nameAt s (getD t (getD index (tableSlot + m) 0) 0)) name
+        (getD index (3 * getD index (tableSlot + m) 0) 0) (getD index (3 * getD index (tableSlot + m) 0 + 1) 0) (getD index (3 * getD index (tableSlot + m) 0 + 2) 0) k j named-keys kk jj (sym ec ∙ e)))
 
-  pub entry-told : (name : List ℕ) (d : Standing) → d ≡ standing (nameAt s (getD t (getD index (770 + m) 0) 0)) name
+  pub entry-told : (name : List ℕ) (d : Standing) → d ≡ standing (nameAt s (getD t (getD index (tableSlot + m) 0) 0)) name
       → d ≡ standing (nameOfPosition (map (nameAt s) (take count t)) (getD (tableIn index) m 0)) name
   entry-told name d e = e ∙ rw entry-name
 
@@ -125,14 +125,14 @@ pub record SeekAt (s t : List ℕ) (count : ℕ) (index : List ℕ) (first : ℕ
   pub least : low ≤ m
   pub inside : low < high → m < high
   pub most : m ≤ high
-  pub is : searchAt 9 (map (nameAt s) (take count t)) (tableIn index) name 0 first (length (tableIn index))
+  pub is : searchAt 10 (map (nameAt s) (take count t)) (tableIn index) name 0 first (length (tableIn index))
       ≡ searchAt left (map (nameAt s) (take count t)) (tableIn index) name low m high
 
-pub seek-long : (s t : List ℕ) (count : ℕ) (index : List ℕ) → Indexed (map (nameAt s) (take count t)) index → 768 < length index
+pub seek-long : (s t : List ℕ) (count : ℕ) (index : List ℕ) → Indexed (map (nameAt s) (take count t)) index → entriesSlot < length index
 seek-long s t count index h = rw (h .long) (omega arith)
 
 pub seek-start : (s t : List ℕ) (count : ℕ) (index : List ℕ) (first : ℕ) (name : List ℕ) (k j : ℕ) → count ≤ length t → Indexed (map (nameAt s) (take count t)) index
-    → first ≤ entriesIn index - 1 → Key name 0 k → Key name 8 j → SeekAt s t count index first name k j 0 (getD index 768 0) first 9
+    → first ≤ entriesIn index - 1 → Key name 0 k → Key name 8 j → SeekAt s t count index first name k j 0 (getD index entriesSlot 0) first 10
 unfolding entriesIn
 seek-start s t count index first name k j it h f kk jj = record {
   in-starts = it;
@@ -148,7 +148,7 @@ seek-start s t count index first name k j it h f kk jj = record {
 }
 
 module _ (s t : List ℕ) (count : ℕ) (index : List ℕ) (first : ℕ) (name : List ℕ) (k j low high m left : ℕ) (h : SeekAt s t count index first name k j low high m left) where
-  pub seek-empty : 0 < left → high ≤ low → Free low ≡ searchAt 9 (map (nameAt s) (take count t)) (tableIn index) name 0 first (length (tableIn index))
+  pub seek-empty : 0 < left → high ≤ low → Free low ≡ searchAt 10 (map (nameAt s) (take count t)) (tableIn index) name 0 first (length (tableIn index))
   unfolding searchAt
   seek-empty z l = sym (h .is ∙ go left z)
     where
@@ -156,7 +156,7 @@ module _ (s t : List ℕ) (count : ℕ) (index : List ℕ) (first : ℕ) (name :
       go zero w = absurd (omega arith)
       go (suc q) w = rw (le-ltb low high l)
 
-  pub seek-out : left ≤ 0 → Free low ≡ searchAt 9 (map (nameAt s) (take count t)) (tableIn index) name 0 first (length (tableIn index))
+  pub seek-out : left ≤ 0 → Free low ≡ searchAt 10 (map (nameAt s) (take count t)) (tableIn index) name 0 first (length (tableIn index))
   unfolding searchAt
   seek-out z = sym (h .is ∙ go left z)
     where
@@ -168,23 +168,23 @@ module _ (s t : List ℕ) (count : ℕ) (index : List ℕ) (first : ℕ) (name :
     pub seek-inside : m < entriesIn index
     seek-inside = omega (arith, h .inside l, h .within)
 
-    pub seek-slot : 770 + m < length index
+    pub seek-slot : tableSlot + m < length index
     seek-slot = entry-slot s t count index (h .in-starts) (h .indexed) m seek-inside
 
-    pub seek-entry : getD index (770 + m) 0 < 256
+    pub seek-entry : getD index (tableSlot + m) 0 < moduleLimit
     seek-entry = entry-small s t count index (h .in-starts) (h .indexed) m seek-inside
 
-    pub seek-begins : getD index (770 + m) 0 < length t
+    pub seek-begins : getD index (tableSlot + m) 0 < length t
     seek-begins = entry-start s t count index (h .in-starts) (h .indexed) m seek-inside
 
-    pub seek-length : getD index (3 * getD index (770 + m) 0 + 2) 0 ≡ length (nameAt s (getD t (getD index (770 + m) 0) 0))
+    pub seek-length : getD index (3 * getD index (tableSlot + m) 0 + 2) 0 ≡ length (nameAt s (getD t (getD index (tableSlot + m) 0) 0))
     seek-length = entry-length s t count index (h .in-starts) (h .indexed) m seek-inside
 
     pub seek-fits : m + 1 ≤ high
     seek-fits = omega (arith, h .inside l)
 
     module _ (z : 0 < left) (d : Standing) (ed : d ≡ standing (nameOfPosition (map (nameAt s) (take count t)) (getD (tableIn index) m 0)) name) where
-      turn : searchAt 9 (map (nameAt s) (take count t)) (tableIn index) name 0 first (length (tableIn index))
+      turn : searchAt 10 (map (nameAt s) (take count t)) (tableIn index) name 0 first (length (tableIn index))
           ≡ byStanding d (There m)
           (searchAt (left - 1) (map (nameAt s) (take count t)) (tableIn index) name (m + 1) (middleOf (m + 1) high) high)
           (searchAt (left - 1) (map (nameAt s) (take count t)) (tableIn index) name low (middleOf low m) m)
@@ -226,25 +226,25 @@ module _ (s t : List ℕ) (count : ℕ) (index : List ℕ) (first : ℕ) (name :
         is = turn ∙ rw (e, em);
       }
 
-      there : d ≡ Same → There m ≡ searchAt 9 (map (nameAt s) (take count t)) (tableIn index) name 0 first (length (tableIn index))
+      there : d ≡ Same → There m ≡ searchAt 10 (map (nameAt s) (take count t)) (tableIn index) name 0 first (length (tableIn index))
       there e = sym (turn ∙ rw e)
 
-    pub seek-alike : (c : Standing) → c ≡ keyStanding (getD index (3 * getD index (770 + m) 0) 0) (getD index (3 * getD index (770 + m) 0 + 1) 0) k j → c ≡ Same
-        → Alike (nameAt s (getD t (getD index (770 + m) 0) 0)) name
+    pub seek-alike : (c : Standing) → c ≡ keyStanding (getD index (3 * getD index (tableSlot + m) 0) 0) (getD index (3 * getD index (tableSlot + m) 0 + 1) 0) k j → c ≡ Same
+        → Alike (nameAt s (getD t (getD index (tableSlot + m) 0) 0)) name
     seek-alike c ec e = entry-alike s t count index (h .in-starts) (h .indexed) m seek-inside name k j (h .first-key) (h .next-key) c ec e
 
-    module _ (z : 0 < left) (c : Standing) (ec : c ≡ keyStanding (getD index (3 * getD index (770 + m) 0) 0) (getD index (3 * getD index (770 + m) 0 + 1) 0) k j) where
+    module _ (z : 0 < left) (c : Standing) (ec : c ≡ keyStanding (getD index (3 * getD index (tableSlot + m) 0) 0) (getD index (3 * getD index (tableSlot + m) 0 + 1) 0) k j) where
       pub seek-before : c ≡ Before → (m′ : ℕ) → m′ ≡ middleOf (m + 1) high → m′ ≤ high → SeekAt s t count index first name k j (m + 1) high m′ (left - 1)
       seek-before e = up z Before (entry-before s t count index (h .in-starts) (h .indexed) m seek-inside name k j (h .first-key) (h .next-key) c ec e) refl
 
       pub seek-after : c ≡ After → (m′ : ℕ) → m′ ≡ middleOf low m → m′ ≤ m → SeekAt s t count index first name k j low m m′ (left - 1)
       seek-after e = down z After (entry-after s t count index (h .in-starts) (h .indexed) m seek-inside name k j (h .first-key) (h .next-key) c ec e) refl
 
-    module _ (z : 0 < left) (d : Standing) (ed : d ≡ standing (nameAt s (getD t (getD index (770 + m) 0) 0)) name) where
+    module _ (z : 0 < left) (d : Standing) (ed : d ≡ standing (nameAt s (getD t (getD index (tableSlot + m) 0) 0)) name) where
       told : d ≡ standing (nameOfPosition (map (nameAt s) (take count t)) (getD (tableIn index) m 0)) name
       told = entry-told s t count index (h .in-starts) (h .indexed) m seek-inside name d ed
 
-      pub seek-there : d ≡ Same → There m ≡ searchAt 9 (map (nameAt s) (take count t)) (tableIn index) name 0 first (length (tableIn index))
+      pub seek-there : d ≡ Same → There m ≡ searchAt 10 (map (nameAt s) (take count t)) (tableIn index) name 0 first (length (tableIn index))
       seek-there e = there z d told e
 
       pub seek-up : d ≡ Before → (m′ : ℕ) → m′ ≡ middleOf (m + 1) high → m′ ≤ high → SeekAt s t count index first name k j (m + 1) high m′ (left - 1)
@@ -256,7 +256,7 @@ module _ (s t : List ℕ) (count : ℕ) (index : List ℕ) (first : ℕ) (name :
   pub seek-order : low ≤ m
   seek-order = h .least
 
-  pub seek-room : length index ≡ 1026
+  pub seek-room : length index ≡ indexLength
   seek-room = h .indexed .long
 
 pub ruleset seek-laws = (seek-long, seek-start, seek-empty, seek-out, seek-slot, seek-entry, seek-begins, seek-length, seek-fits, seek-alike, seek-before, seek-after, seek-there, seek-up, seek-down, seek-order, seek-room)
@@ -265,48 +265,48 @@ pub ruleset seek-laws = (seek-long, seek-start, seek-empty, seek-out, seek-slot,
 
 -- where the search ends
 module _ (names : List (List ℕ)) (index : List ℕ) (h : Indexed names index) (first : ℕ) (f : first ≤ entriesIn index - 1) (name : List ℕ) where
-  pub sought-placing : (r : Place) → r ≡ searchAt 9 names (tableIn index) name 0 first (length (tableIn index)) → Placing names (tableIn index) name r
+  pub sought-placing : (r : Place) → r ≡ searchAt 10 names (tableIn index) name 0 first (length (tableIn index)) → Placing names (tableIn index) name r
   sought-placing r e =
       let q : first ≤ length (tableIn index) - 1 = rw (table-long names index h) f in
-      rw e (search-first names 8 (tableIn index) name (h .sorted .ascending) first q (table-few names index h))
+      rw e (search-first names 9 (tableIn index) name (h .sorted .ascending) first q (table-few names index h))
 
 module _ (s t : List ℕ) (count : ℕ) (index : List ℕ) (it : count ≤ length t) (h : Indexed (map (nameAt s) (take count t)) index) where
-  pub find-slot : 769 < length index
+  pub find-slot : firstSlot < length index
   find-slot = rw (h .long) (omega arith)
 
-  pub find-first : getD index 769 0 ≤ entriesIn index - 1
+  pub find-first : getD index firstSlot 0 ≤ entriesIn index - 1
   find-first = h .first
 
   module _ (name : List ℕ) (r : Place)
-      (er : r ≡ searchAt 9 (map (nameAt s) (take count t)) (tableIn index) name 0 (getD index 769 0) (length (tableIn index))) where
-    walk : (f : Found) → f ≡ searchNine (map (nameAt s) (take count t)) (tableIn index) (getD index 769 0) name → f ≡ findName (map (nameAt s) (take count t)) name 0
+      (er : r ≡ searchAt 10 (map (nameAt s) (take count t)) (tableIn index) name 0 (getD index firstSlot 0) (length (tableIn index))) where
+    walk : (f : Found) → f ≡ searchTen (map (nameAt s) (take count t)) (tableIn index) (getD index firstSlot 0) name → f ≡ findName (map (nameAt s) (take count t)) name 0
     walk f e =
-        e ∙ sorted-nine (map (nameAt s) (take count t)) (tableIn index) (h .sorted) name (getD index 769 0)
+        e ∙ sorted-ten (map (nameAt s) (take count t)) (tableIn index) (h .sorted) name (getD index firstSlot 0)
         (rw (table-long (map (nameAt s) (take count t)) index h) (h .first)) (table-few (map (nameAt s) (take count t)) index h)
 
     held : (m : ℕ) → r ≡ There m → m < entriesIn index
     held m e =
-        let p : Held (map (nameAt s) (take count t)) (tableIn index) name m = sought-placing (map (nameAt s) (take count t)) index h (getD index 769 0) (h .first) name r er .there m e in
+        let p : Held (map (nameAt s) (take count t)) (tableIn index) name m = sought-placing (map (nameAt s) (take count t)) index h (getD index firstSlot 0) (h .first) name r er .there m e in
         rw (table-long (map (nameAt s) (take count t)) index h) at (p .within)
 
-    pub find-entry : (m : ℕ) → r ≡ There m → 770 + m < length index
+    pub find-entry : (m : ℕ) → r ≡ There m → tableSlot + m < length index
     find-entry m e = entry-slot s t count index it h m (held m e)
 
-    pub find-entry-fits : (m : ℕ) → r ≡ There m → Fits w64 (770 + m)
-    find-entry-fits m e = let l : 770 + m < 1026 = rw (h .long) at (find-entry m e) in fits-below {n = 1026} tt (omega (arith, l))
+    pub find-entry-fits : (m : ℕ) → r ≡ There m → Fits w64 (tableSlot + m)
+    find-entry-fits m e = let l : tableSlot + m < indexLength = rw (h .long) at (find-entry m e) in fits-below {n = indexLength} tt (omega (arith, l))
 
-    pub find-entry-scaled : (m : ℕ) → r ≡ There m → Fits w64 ((770 + m) * 8)
-    find-entry-scaled m e = let l : 770 + m < 1026 = rw (h .long) at (find-entry m e) in fits-below {n = 8208} tt (omega (arith, l))
+    pub find-entry-scaled : (m : ℕ) → r ≡ There m → Fits w64 ((tableSlot + m) * 8)
+    find-entry-scaled m e = let l : tableSlot + m < indexLength = rw (h .long) at (find-entry m e) in fits-below {n = 16400} tt (omega (arith, l))
 
-    pub find-there : (m : ℕ) → r ≡ There m → At (getD index (770 + m) 0) ≡ searchNine (map (nameAt s) (take count t)) (tableIn index) (getD index 769 0) name
-    unfolding searchNine foundIn
+    pub find-there : (m : ℕ) → r ≡ There m → At (getD index (tableSlot + m) 0) ≡ searchTen (map (nameAt s) (take count t)) (tableIn index) (getD index firstSlot 0) name
+    unfolding searchTen foundIn
     find-there m e = rw (← er, e) (ap At (sym (entry-at (map (nameAt s) (take count t)) index h m (held m e))))
 
-    pub find-there-walk : (m : ℕ) → r ≡ There m → At (getD index (770 + m) 0) ≡ findName (map (nameAt s) (take count t)) name 0
-    find-there-walk m e = walk (At (getD index (770 + m) 0)) (find-there m e)
+    pub find-there-walk : (m : ℕ) → r ≡ There m → At (getD index (tableSlot + m) 0) ≡ findName (map (nameAt s) (take count t)) name 0
+    find-there-walk m e = walk (At (getD index (tableSlot + m) 0)) (find-there m e)
 
-    pub find-free : (m : ℕ) → r ≡ Free m → Nothing ≡ searchNine (map (nameAt s) (take count t)) (tableIn index) (getD index 769 0) name
-    unfolding searchNine foundIn
+    pub find-free : (m : ℕ) → r ≡ Free m → Nothing ≡ searchTen (map (nameAt s) (take count t)) (tableIn index) (getD index firstSlot 0) name
+    unfolding searchTen foundIn
     find-free m e = rw (← er, e)
 
     pub find-free-walk : (m : ℕ) → r ≡ Free m → Nothing ≡ findName (map (nameAt s) (take count t)) name 0
@@ -345,27 +345,27 @@ module _ (a b : List ℕ) where
       go false ep false eq h = before-total a b ep eq
 
 module _ (names : List (List ℕ)) (index : List ℕ) (h : Indexed names index) (name : List ℕ) where
-  pub place-slot : 768 < length index
+  pub place-slot : entriesSlot < length index
   place-slot = rw (h .long) (omega arith)
 
-  pub place-first-slot : 769 < length index
+  pub place-first-slot : firstSlot < length index
   place-first-slot = rw (h .long) (omega arith)
 
-  pub place-half : getD index 768 0 / 2 ≤ entriesIn index - 1
+  pub place-half : getD index entriesSlot 0 / 2 ≤ entriesIn index - 1
   unfolding entriesIn
   place-half = omega arith
 
-  pub place-sought : (first : ℕ) (r : Place) → first ≤ entriesIn index - 1 → r ≡ searchAt 9 names (tableIn index) name 0 first (length (tableIn index)) → Placing names (tableIn index) name r
+  pub place-sought : (first : ℕ) (r : Place) → first ≤ entriesIn index - 1 → r ≡ searchAt 10 names (tableIn index) name 0 first (length (tableIn index)) → Placing names (tableIn index) name r
   place-sought first r f e = sought-placing names index h first f name r e
 
   -- no entry
-  pub place-none : getD index 768 0 ≡ 0 → Placing names (tableIn index) name (Free 0)
+  pub place-none : getD index entriesSlot 0 ≡ 0 → Placing names (tableIn index) name (Free 0)
   unfolding entriesIn
   place-none z =
       let q : length (tableIn index) ≡ 0 = table-long names index h ∙ z in
       placing-free names (tableIn index) name 0 (record { within = omega arith; below = λ i l. absurd (omega arith); above = λ i l k. absurd (omega (arith, k, q)) })
 
-  pub place-some : (getD index 768 0 ≡ 0 → ⊥) → getD index 769 0 < entriesIn index
+  pub place-some : (getD index entriesSlot 0 ≡ 0 → ⊥) → getD index firstSlot 0 < entriesIn index
   unfolding entriesIn
   place-some z = omega (arith, h .first)
 
@@ -389,18 +389,18 @@ module _ (names : List (List ℕ)) (index : List ℕ) (h : Indexed names index) 
     })
 
   -- behind the entry that was put in last
-  pub place-behind : (c : Standing) → c ≡ standing (nameOfPosition names (getD (tableIn index) (getD index 769 0) 0)) name → c ≡ Before → (getD index 768 0 ≡ 0 → ⊥)
-      → Below names (tableIn index) name (getD index 769 0 + 1)
-  place-behind c ec e z = place-below (getD index 769 0) c ec (place-some z) e
+  pub place-behind : (c : Standing) → c ≡ standing (nameOfPosition names (getD (tableIn index) (getD index firstSlot 0) 0)) name → c ≡ Before → (getD index entriesSlot 0 ≡ 0 → ⊥)
+      → Below names (tableIn index) name (getD index firstSlot 0 + 1)
+  place-behind c ec e z = place-below (getD index firstSlot 0) c ec (place-some z) e
 
   -- behind the last
-  pub place-last : (m : ℕ) → m ≡ getD index 768 0 → Below names (tableIn index) name m → Placing names (tableIn index) name (Free (getD index 768 0))
+  pub place-last : (m : ℕ) → m ≡ getD index entriesSlot 0 → Below names (tableIn index) name m → Placing names (tableIn index) name (Free (getD index entriesSlot 0))
   unfolding entriesIn
   place-last m e b =
-      let q : length (tableIn index) ≡ getD index 768 0 = table-long names index h in
-      placing-free names (tableIn index) name (getD index 768 0) (record { within = omega (arith, q); below = rw (← e) (b .all); above = λ i l k. absurd (omega (arith, l, k, q)) })
+      let q : length (tableIn index) ≡ getD index entriesSlot 0 = table-long names index h in
+      placing-free names (tableIn index) name (getD index entriesSlot 0) (record { within = omega (arith, q); below = rw (← e) (b .all); above = λ i l k. absurd (omega (arith, l, k, q)) })
 
-  pub place-inner : (m : ℕ) → (m ≡ getD index 768 0 → ⊥) → m ≤ entriesIn index → m < entriesIn index
+  pub place-inner : (m : ℕ) → (m ≡ getD index entriesSlot 0 → ⊥) → m ≤ entriesIn index → m < entriesIn index
   unfolding entriesIn
   place-inner m z l = omega arith
 
@@ -411,67 +411,67 @@ pub ruleset place-laws = (place-slot, place-first-slot, place-half, place-sought
 
 -- ---- a position put in its place
 
-module _ (index : List ℕ) (at : ℕ) (long : length index ≡ 1026) (it : at ≤ entriesIn index) (few : entriesIn index < 256) where
-  pub put-n : Fits w64 (770 + getD index 768 0)
+module _ (index : List ℕ) (at : ℕ) (long : length index ≡ indexLength) (it : at ≤ entriesIn index) (few : entriesIn index < moduleLimit) where
+  pub put-n : Fits w64 (tableSlot + getD index entriesSlot 0)
   unfolding entriesIn
-  put-n = fits-below {n = 1026} tt (omega arith)
+  put-n = fits-below {n = indexLength} tt (omega arith)
 
-  pub put-n-fits : Fits w64 (getD index 768 0 + 1)
+  pub put-n-fits : Fits w64 (getD index entriesSlot 0 + 1)
   unfolding entriesIn
-  put-n-fits = fits-below {n = 256} tt (omega arith)
+  put-n-fits = fits-below {n = moduleLimit} tt (omega arith)
 
-  pub put-from : 770 + at ≤ 770 + getD index 768 0
+  pub put-from : tableSlot + at ≤ tableSlot + getD index entriesSlot 0
   unfolding entriesIn
   put-from = omega arith
 
-  pub put-room : 770 + getD index 768 0 < length index
+  pub put-room : tableSlot + getD index entriesSlot 0 < length index
   unfolding entriesIn
   put-room = rw long (omega arith)
 
-  module _ (s₀ : List ℕ) (e : s₀ ≡ shifted index (770 + at) (770 + getD index 768 0)) where
-    shifted-long : length s₀ ≡ 1026
+  module _ (s₀ : List ℕ) (e : s₀ ≡ shifted index (tableSlot + at) (tableSlot + getD index entriesSlot 0)) where
+    shifted-long : length s₀ ≡ indexLength
     unfolding entriesIn
-    shifted-long = ap length e ∙ length-shifted index (770 + at) (770 + getD index 768 0) (omega arith) (rw long (omega arith)) ∙ long
+    shifted-long = ap length e ∙ length-shifted index (tableSlot + at) (tableSlot + getD index entriesSlot 0) (omega arith) (rw long (omega arith)) ∙ long
 
-    pub put-at : 770 + at < length s₀
+    pub put-at : tableSlot + at < length s₀
     unfolding entriesIn
     put-at = rw shifted-long (omega arith)
 
     module _ (i : ℕ) where
       abbrev s1 : List ℕ
-      s1 = set s₀ (770 + at) i
+      s1 = set s₀ (tableSlot + at) i
 
-      long-1 : length s1 ≡ 1026
-      long-1 = length-set s₀ (770 + at) i ∙ shifted-long
+      long-1 : length s1 ≡ indexLength
+      long-1 = length-set s₀ (tableSlot + at) i ∙ shifted-long
 
-      pub put-write-1 : 768 < length (set s₀ (770 + at) i)
+      pub put-write-1 : entriesSlot < length (set s₀ (tableSlot + at) i)
       put-write-1 = rw long-1 (omega arith)
 
       module _ (n : ℕ) where
-        long-2 : length (set s1 768 n) ≡ 1026
-        long-2 = length-set s1 768 n ∙ long-1
+        long-2 : length (set s1 entriesSlot n) ≡ indexLength
+        long-2 = length-set s1 entriesSlot n ∙ long-1
 
-        pub put-write-2 : 769 < length (set (set s₀ (770 + at) i) 768 n)
+        pub put-write-2 : firstSlot < length (set (set s₀ (tableSlot + at) i) entriesSlot n)
         put-write-2 = rw long-2 (omega arith)
 
-        module _ (ib : i < 256) where
-          long-3 : length (set (set s1 768 n) 769 at) ≡ 1026
-          long-3 = length-set (set s1 768 n) 769 at ∙ long-2
+        module _ (ib : i < moduleLimit) where
+          long-3 : length (set (set s1 entriesSlot n) firstSlot at) ≡ indexLength
+          long-3 = length-set (set s1 entriesSlot n) firstSlot at ∙ long-2
 
-          pub put-write-3 : 3 * i < length (set (set (set s₀ (770 + at) i) 768 n) 769 at)
+          pub put-write-3 : 3 * i < length (set (set (set s₀ (tableSlot + at) i) entriesSlot n) firstSlot at)
           put-write-3 = rw long-3 (omega arith)
 
           module _ (k : ℕ) where
-            long-4 : length (set (set (set s1 768 n) 769 at) (3 * i) k) ≡ 1026
-            long-4 = length-set (set (set s1 768 n) 769 at) (3 * i) k ∙ long-3
+            long-4 : length (set (set (set s1 entriesSlot n) firstSlot at) (3 * i) k) ≡ indexLength
+            long-4 = length-set (set (set s1 entriesSlot n) firstSlot at) (3 * i) k ∙ long-3
 
-            pub put-write-4 : 3 * i + 1 < length (set (set (set (set s₀ (770 + at) i) 768 n) 769 at) (3 * i) k)
+            pub put-write-4 : 3 * i + 1 < length (set (set (set (set s₀ (tableSlot + at) i) entriesSlot n) firstSlot at) (3 * i) k)
             put-write-4 = rw long-4 (omega arith)
 
-            pub put-write-5 : (j : ℕ) → 3 * i + 2 < length (set (set (set (set (set s₀ (770 + at) i) 768 n) 769 at) (3 * i) k) (3 * i + 1) j)
-            put-write-5 j = rw (length-set (set (set (set s1 768 n) 769 at) (3 * i) k) (3 * i + 1) j, long-4) (omega arith)
+            pub put-write-5 : (j : ℕ) → 3 * i + 2 < length (set (set (set (set (set s₀ (tableSlot + at) i) entriesSlot n) firstSlot at) (3 * i) k) (3 * i + 1) j)
+            put-write-5 j = rw (length-set (set (set (set s1 entriesSlot n) firstSlot at) (3 * i) k) (3 * i + 1) j, long-4) (omega arith)
 
-      pub put-told : (k j len : ℕ) → set (set (set (set (set (set s₀ (770 + at) i) 768 (getD index 768 0 + 1)) 769 at) (3 * i) k) (3 * i + 1) j) (3 * i + 2) len ≡ putAt index at i k j len
+      pub put-told : (k j len : ℕ) → set (set (set (set (set (set s₀ (tableSlot + at) i) entriesSlot (getD index entriesSlot 0 + 1)) firstSlot at) (3 * i) k) (3 * i + 1) j) (3 * i + 2) len ≡ putAt index at i k j len
       unfolding putAt entriesIn
       put-told k j len = rw e
 
@@ -479,14 +479,14 @@ pub ruleset put-laws = (put-n, put-n-fits, put-from, put-room, put-at, put-write
 
 -- ---- one name more
 
-module _ (s t : List ℕ) (count : ℕ) (index : List ℕ) (it : count ≤ length t) (few : count < 256) (h : Indexed (map (nameAt s) (take count t)) index) (name : List ℕ) where
-  room : length (map (nameAt s) (take count t)) < 256
+module _ (s t : List ℕ) (count : ℕ) (index : List ℕ) (it : count ≤ length t) (few : count < moduleLimit) (h : Indexed (map (nameAt s) (take count t)) index) (name : List ℕ) where
+  room : length (map (nameAt s) (take count t)) < moduleLimit
   room = rw (names-long s t count it) few
 
-  pub add-long : length index ≡ 1026
+  pub add-long : length index ≡ indexLength
   add-long = h .long
 
-  pub add-few : entriesIn index < 256
+  pub add-few : entriesIn index < moduleLimit
   add-few = omega (arith, h .few, names-long s t count it)
 
   module _ (r : Place) (p : Placing (map (nameAt s) (take count t)) (tableIn index) name r) where
@@ -520,25 +520,25 @@ pub ruleset add-laws = (add-long, add-few, add-there, add-place, add-new)
 -- ---- java.base first
 
 module _ (names : List (List ℕ)) (index : List ℕ) (h : Indexed names index) where
-  pub first-slot : 768 < length index
+  pub first-slot : entriesSlot < length index
   first-slot = rw (h .long) (omega arith)
 
-  pub first-index : 769 < length index
+  pub first-index : firstSlot < length index
   first-index = rw (h .long) (omega arith)
 
-  pub first-half : getD index 768 0 / 2 ≤ entriesIn index - 1
+  pub first-half : getD index entriesSlot 0 / 2 ≤ entriesIn index - 1
   unfolding entriesIn
   first-half = omega arith
 
-  pub first-there : (name : List ℕ) (r : Place) (m : ℕ) → r ≡ searchAt 9 names (tableIn index) name 0 (getD index 768 0 / 2) (length (tableIn index)) → r ≡ There m → Indexed names (set index 769 m)
+  pub first-there : (name : List ℕ) (r : Place) (m : ℕ) → r ≡ searchAt 10 names (tableIn index) name 0 (getD index entriesSlot 0 / 2) (length (tableIn index)) → r ≡ There m → Indexed names (set index firstSlot m)
   first-there name r m er e =
-      let p : Held names (tableIn index) name m = sought-placing names index h (getD index 768 0 / 2) first-half name r er .there m e in
+      let p : Held names (tableIn index) name m = sought-placing names index h (getD index entriesSlot 0 / 2) first-half name r er .there m e in
       indexed-first names index m h (rw (table-long names index h) at (p .within))
 
 pub ruleset first-laws = (first-slot, first-index, first-half, first-there)
 
 -- ---- the table as it stands
 
-pub entries-is : (index : List ℕ) → getD index 768 0 ≡ entriesIn index
+pub entries-is : (index : List ℕ) → getD index entriesSlot 0 ≡ entriesIn index
 unfolding entriesIn
 entries-is index = refl

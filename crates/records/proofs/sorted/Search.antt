@@ -11,11 +11,11 @@ use lib.Dec.{ltb}
 use borrow.Author.Tests.{ltb-true, ltb-false}
 use Rattle.records.specs.Bytes.{sameBytes, beforeBytes}
 use Rattle.records.specs.Name.{memName}
-use Rattle.records.specs.Set.{nameAt}
+use Rattle.records.specs.Set.{nameAt, moduleLimit}
 use Rattle.records.specs.Order.{isOrdered}
 use Rattle.records.specs.Finder.{findName, pickFound, findModule, isFirst}
 use Rattle.records.specs.Keys.{standing}
-use Rattle.records.specs.Sorted.{nameOfPosition, namesBy, middleOf, byStanding, searchAt, foundIn, searchNine, isVisible, allVisible, Sorted, Held, Gap, Placing}
+use Rattle.records.specs.Sorted.{nameOfPosition, namesBy, middleOf, byStanding, searchAt, foundIn, searchTen, isVisible, allVisible, Sorted, Held, Gap, Placing}
 use Rattle.records.specs.declared.finder.Found.the-variants.{At, Nothing}
 use Rattle.records.specs.declared.sorted.Place.{Place}
 use Rattle.records.specs.declared.sorted.Place.the-variants.{There, Free}
@@ -219,12 +219,12 @@ module _ (names : List (List ℕ)) where
     pub sorted-first : (k : ℕ) (n : List ℕ) (m : ℕ) → m ≤ length l - 1 → length l ≤ 2 ^ k → foundIn l (searchAt (suc k) names l n 0 m (length l)) ≡ findName names n 0
     sorted-first k n m q w = placing-found n (searchAt (suc k) names l n 0 m (length l)) (search-first k l n (h .ascending) m q w)
 
-    -- nine names for 256
-    pub sorted-nine : (n : List ℕ) (m : ℕ) → m ≤ length l - 1 → length l ≤ 256 → searchNine names l m n ≡ findName names n 0
-    unfolding searchNine
-    sorted-nine n m q w = sorted-first 8 n m q w
+    -- ten names for 512
+    pub sorted-ten : (n : List ℕ) (m : ℕ) → m ≤ length l - 1 → length l ≤ moduleLimit → searchTen names l m n ≡ findName names n 0
+    unfolding searchTen
+    sorted-ten n m q w = sorted-first 9 n m q w
 
 -- in a set that the check takes the search is lookup among its modules, for any first entry
-pub sorted-module : (s : List ℕ) (c : ℕ) (t : List ℕ) → GoodSet s c t → (l : List ℕ) → Sorted (map (nameAt s) (take c t)) l → (n : List ℕ) (m : ℕ) → m ≤ length l - 1 → length l ≤ 256
-    → searchNine (map (nameAt s) (take c t)) l m n ≡ findModule s n
-sorted-module s c t g l h n m q w = sorted-nine (map (nameAt s) (take c t)) l h n m q w ∙ find-is s c t g n
+pub sorted-module : (s : List ℕ) (c : ℕ) (t : List ℕ) → GoodSet s c t → (l : List ℕ) → Sorted (map (nameAt s) (take c t)) l → (n : List ℕ) (m : ℕ) → m ≤ length l - 1 → length l ≤ moduleLimit
+    → searchTen (map (nameAt s) (take c t)) l m n ≡ findModule s n
+sorted-module s c t g l h n m q w = sorted-ten (map (nameAt s) (take c t)) l h n m q w ∙ find-is s c t g n

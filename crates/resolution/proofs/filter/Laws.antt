@@ -6,7 +6,7 @@ use mathlib.Core.Logic.{_⊎_, inl, inr, ⊎-elim}
 use Prim.Native.Nat.{ℕ, _-_, _/_, _%_, _≤_, _<_}
 use native.Mathlib.Omega.{arith}
 use lib.Dec.{eqb}
-use lib.ListN.{length, take, drop}
+use lib.ListN.{length, getD, take, drop, set}
 use borrow.Author.Tests.{eq-eqb}
 use Rattle.records.specs.Bytes.{sameBytes}
 use Rattle.records.specs.Name.{memName, nameOf}
@@ -18,60 +18,46 @@ use Rattle.records.specs.declared.record.Kind.{Kind}
 use Rattle.records.proofs.record.Bodies.{bodies-next, bodies-end, next-room, next-less}
 use Rattle.records.proofs.Logic.{by, and-left, and-right, and-both, or-left, or-right, or-cases, true≠false, neither-left, neither-right}
 use Rattle.resolution.specs.Lists.{Name, any}
-use Rattle.resolution.specs.Graph.{edge, AddedEdge}
+use Rattle.resolution.specs.Row.{bit, holds}
 use Rattle.resolution.specs.Hash.{hashOf}
-use Rattle.resolution.specs.Filter.{bitAt, hasBits, isMarked, BitsSet, MarkedAll}
+use Rattle.resolution.specs.Filter.{hasBits, isMarked, BitSet, BitsSet, MarkedAll}
 use Rattle.resolution.proofs.Lists.{same→}
+use Rattle.resolution.proofs.row.Laws.{holds-added}
 
 -- ---- the bits of a number
 
-module _ (words : List ℕ) (h : ℕ) (r : Bool) (er : r ≡ edge words (h % 65536 / 256) (h % 65536 % 256)) where
+-- a bit is set, where a word v that has it more is stored in the place of its word
+pub set-bit-is : (g : List ℕ) (a v : ℕ) → length g ≡ 1024 → a < 65536 → ((b : ℕ) → bit v b ≡ bit (getD g (a / 64) 0) b || eqb b (a % 64)) → BitSet g a (set g (a / 64) v)
+set-bit-is g a v n l h = record { each = holds-added g a v (omega arith) h }
+
+module _ (words : List ℕ) (h : ℕ) (r : Bool) (er : r ≡ holds words (h % 65536)) where
   pub bits-not : r ≡ false → false ≡ hasBits words h
-  unfolding hasBits bitAt
+  unfolding hasBits
   bits-not f = rw (← er, f)
 
-  pub bits-are : (q : Bool) → r ≡ true → q ≡ edge words (h / 65536 % 65536 / 256) (h / 65536 % 65536 % 256) → q ≡ hasBits words h
-  unfolding hasBits bitAt
+  pub bits-are : (q : Bool) → r ≡ true → q ≡ holds words (h / 65536 % 65536) → q ≡ hasBits words h
+  unfolding hasBits
   bits-are q t eq = rw (← er, t, ← eq)
 
 pub ruleset bits-laws = (bits-not, bits-are)
 
-module _ (g : List ℕ) (h : ℕ) (g₁ : List ℕ) (l : h < 65536) (e : AddedEdge g (h / 256) (h % 256) g₁) where
-  bit-kept : (x : ℕ) → bitAt g x ≡ true → bitAt g₁ x ≡ true
-  unfolding bitAt
-  bit-kept x t =
-      e .edges (omega arith) (omega arith) (x / 256) (x % 256)
-      ∙ or-left (edge g (x / 256) (x % 256)) (eqb (x / 256) (h / 256) && eqb (x % 256) (h % 256)) t
+module _ (g : List ℕ) (h : ℕ) (g₁ : List ℕ) (e : BitSet g h g₁) where
+  bit-kept : (x : ℕ) → holds g x ≡ true → holds g₁ x ≡ true
+  bit-kept x t = e .each x ∙ or-left (holds g x) (eqb x h) t
 
-  bit-new : bitAt g₁ h ≡ true
-  unfolding bitAt
-  bit-new =
-      e .edges (omega arith) (omega arith) (h / 256) (h % 256)
-      ∙ or-right (edge g (h / 256) (h % 256)) (eqb (h / 256) (h / 256) && eqb (h % 256) (h % 256))
-      (and-both (eq-eqb (h / 256) (h / 256) refl) (eq-eqb (h % 256) (h % 256) refl))
+  bit-new : holds g₁ h ≡ true
+  bit-new = e .each h ∙ or-right (holds g h) (eqb h h) (eq-eqb h h refl)
 
-two-set : (g : List ℕ) (h a b : ℕ) (g₁ g₂ : List ℕ) → a ≡ h % 65536 → b ≡ h / 65536 % 65536 → AddedEdge g (a / 256) (a % 256) g₁ → AddedEdge g₁ (b / 256) (b % 256) g₂
-    → BitsSet g h g₂
+pub set-bits-is : (g : List ℕ) (h : ℕ) (g₁ g₂ : List ℕ) → BitSet g (h % 65536) g₁ → BitSet g₁ (h / 65536 % 65536) g₂ → BitsSet g h g₂
 unfolding hasBits
-two-set g h a b g₁ g₂ ea eb p q = record {
-  kept = λ x t. and-both (on (x % 65536) (and-left (bitAt g (x % 65536)) (bitAt g (x / 65536 % 65536)) t))
-      (on (x / 65536 % 65536) (and-right (bitAt g (x % 65536)) (bitAt g (x / 65536 % 65536)) t));
-  new = and-both (subst (λ (x : ℕ). bitAt g₂ x ≡ true) ea (bit-kept g₁ b g₂ lb q a (bit-new g a g₁ la p)))
-      (subst (λ (x : ℕ). bitAt g₂ x ≡ true) eb (bit-new g₁ b g₂ lb q));
+set-bits-is g h g₁ g₂ p q = record {
+  kept = λ x t. and-both (on (x % 65536) (and-left (holds g (x % 65536)) (holds g (x / 65536 % 65536)) t))
+      (on (x / 65536 % 65536) (and-right (holds g (x % 65536)) (holds g (x / 65536 % 65536)) t));
+  new = and-both (bit-kept g₁ (h / 65536 % 65536) g₂ q (h % 65536) (bit-new g (h % 65536) g₁ p)) (bit-new g₁ (h / 65536 % 65536) g₂ q);
 }
   where
-    la : a < 65536
-    la = omega (arith, ea)
-
-    lb : b < 65536
-    lb = omega (arith, eb)
-
-    on : (x : ℕ) → bitAt g x ≡ true → bitAt g₂ x ≡ true
-    on x t = bit-kept g₁ b g₂ lb q x (bit-kept g a g₁ la p x t)
-
-pub set-bits-is : (g : List ℕ) (h : ℕ) (g₁ g₂ : List ℕ) → AddedEdge g (h % 65536 / 256) (h % 65536 % 256) g₁
-    → AddedEdge g₁ (h / 65536 % 65536 / 256) (h / 65536 % 65536 % 256) g₂ → BitsSet g h g₂
-set-bits-is g h g₁ g₂ p q = two-set g h (h % 65536) (h / 65536 % 65536) g₁ g₂ refl refl p q
+    on : (x : ℕ) → holds g x ≡ true → holds g₂ x ≡ true
+    on x t = bit-kept g₁ (h / 65536 % 65536) g₂ q x (bit-kept g (h % 65536) g₁ p x t)
 
 -- ---- a name is marked
 

@@ -1,4 +1,4 @@
--- The edges of a graph: none leads past 255, one is added by a bit of a word, and those to what a row does not hold.
+-- The edges of a graph: none leads past 511, one is added by a bit of a word, and those to what a row does not hold.
 use mathlib.Core.Path.{_≡_, refl, sym, ap, ap₂, _∙_}
 use mathlib.Core.Bool.{Bool, true, false, not, _||_, _&&_, and-false, or-false}
 use mathlib.Core.List.{List, [], _∷_}
@@ -12,133 +12,114 @@ use borrow.Author.Tests.{eq-eqb, ne-eqb, eqb-true, eqb-false, ltb-true, ltb-fals
 use mir.Syntax.{w64}
 use mir.Val.{Fits}
 use lib.Bits.{bitAnd, bitOr}
-use Rattle.records.proofs.Logic.{true≠false}
+use Rattle.records.proofs.Logic.{true≠false, neither-left, neither-right}
 use Rattle.resolution.specs.Row.{bit, holds, FirstFrom}
-use Rattle.resolution.specs.Graph.{edge, lacks, AddedEdge, Lacking, AnyLacking}
+use Rattle.resolution.specs.Graph.{edge, ninth, lacks, Lacking, AnyLacking}
 use Rattle.resolution.proofs.row.Bits.{bit-zero, bit-and, bit-not, bit-or}
 use Rattle.resolution.proofs.row.Laws.{eqb-parts, holds-out, zero-at}
 
 -- the edge's bit
-pub edge-is : (g : List ℕ) (i j : ℕ) → j < 256 → edge g i j ≡ bit (getD g (i * 4 + j / 64) 0) (j % 64)
+pub edge-is : (g : List ℕ) (i j : ℕ) → j < 512 → edge g i j ≡ bit (getD g (i * 9 + j / 64) 0) (j % 64)
 unfolding edge
-edge-is g i j h = ap (λ (t : Bool). t && bit (getD g (i * 4 + j / 64) 0) (j % 64)) (lt-ltb j 256 h)
+edge-is g i j h = ap (λ (t : Bool). t && bit (getD g (i * 9 + j / 64) 0) (j % 64)) (lt-ltb j 512 h)
 
-pub edge-past : (g : List ℕ) (i j : ℕ) → 256 ≤ j → edge g i j ≡ false
+pub edge-past : (g : List ℕ) (i j : ℕ) → 512 ≤ j → edge g i j ≡ false
 unfolding edge
-edge-past g i j h = ap (λ (t : Bool). t && bit (getD g (i * 4 + j / 64) 0) (j % 64)) (le-ltb j 256 h)
+edge-past g i j h = ap (λ (t : Bool). t && bit (getD g (i * 9 + j / 64) 0) (j % 64)) (le-ltb j 512 h)
 
-pub edge-below : (g : List ℕ) (i j : ℕ) → edge g i j ≡ true → j < 256
-edge-below g i j e = go (ltb j 256) refl
+pub edge-below : (g : List ℕ) (i j : ℕ) → edge g i j ≡ true → j < 512
+edge-below g i j e = go (ltb j 512) refl
   where
-    go : (t : Bool) → ltb j 256 ≡ t → j < 256
-    go true h = ltb-true j 256 h
+    go : (t : Bool) → ltb j 512 ≡ t → j < 512
+    go true h = ltb-true j 512 h
     go false h =
-        let p : edge g i j ≡ false = edge-past g i j (ltb-false j 256 h) in
+        let p : edge g i j ≡ false = edge-past g i j (ltb-false j 512 h) in
         let z : _≡_ {A = ℕ} 0 1 = cc in absurd (omega arith)
 
 -- an edge is added, where a word v that has bit j % 64 more is stored in the place of its word
-pub edge-added : (g : List ℕ) (i j v : ℕ) → j < 256 → i * 4 + j / 64 < length g
-    → ((b : ℕ) → bit v b ≡ bit (getD g (i * 4 + j / 64) 0) b || eqb b (j % 64))
-    → (a b : ℕ) → edge (set g (i * 4 + j / 64) v) a b ≡ edge g a b || (eqb a i && eqb b j)
-edge-added g i j v hj l h a b = outer (ltb b 256) refl
+pub edge-added : (g : List ℕ) (i j v : ℕ) → j < 512 → i * 9 + j / 64 < length g
+    → ((b : ℕ) → bit v b ≡ bit (getD g (i * 9 + j / 64) 0) b || eqb b (j % 64))
+    → (a b : ℕ) → edge (set g (i * 9 + j / 64) v) a b ≡ edge g a b || (eqb a i && eqb b j)
+edge-added g i j v hj l h a b = outer (ltb b 512) refl
   where
-    inner : b < 256 → (t : Bool) → eqb (a * 4 + b / 64) (i * 4 + j / 64) ≡ t
-        → bit (getD (set g (i * 4 + j / 64) v) (a * 4 + b / 64) 0) (b % 64) ≡ bit (getD g (a * 4 + b / 64) 0) (b % 64) || (eqb a i && eqb b j)
+    inner : b < 512 → (t : Bool) → eqb (a * 9 + b / 64) (i * 9 + j / 64) ≡ t
+        → bit (getD (set g (i * 9 + j / 64) v) (a * 9 + b / 64) 0) (b % 64) ≡ bit (getD g (a * 9 + b / 64) 0) (b % 64) || (eqb a i && eqb b j)
     inner hb true e =
-        let q : a * 4 + b / 64 ≡ i * 4 + j / 64 = eqb-true (a * 4 + b / 64) (i * 4 + j / 64) e in
+        let q : a * 9 + b / 64 ≡ i * 9 + j / 64 = eqb-true (a * 9 + b / 64) (i * 9 + j / 64) e in
         let qa : a ≡ i = omega arith in
         let qb : b / 64 ≡ j / 64 = omega arith in
-        ap (λ (x : ℕ). bit x (b % 64)) (ap (λ (n : ℕ). getD (set g (i * 4 + j / 64) v) n 0) q ∙ getD-set-same g (i * 4 + j / 64) v 0 l)
+        ap (λ (x : ℕ). bit x (b % 64)) (ap (λ (n : ℕ). getD (set g (i * 9 + j / 64) v) n 0) q ∙ getD-set-same g (i * 9 + j / 64) v 0 l)
         ∙ h (b % 64)
         ∙ ap₂ (λ (n : ℕ) (t : Bool). bit (getD g n 0) (b % 64) || t) (sym q)
         (eqb-parts b j qb ∙ ap (λ (t : Bool). t && eqb b j) (sym (eq-eqb a i qa)))
     inner hb false e =
-        ap (λ (x : ℕ). bit x (b % 64)) (getD-set-other g (i * 4 + j / 64) (a * 4 + b / 64) v 0 (eqb-false (a * 4 + b / 64) (i * 4 + j / 64) e))
-        ∙ sym (or-false (bit (getD g (a * 4 + b / 64) 0) (b % 64)))
-        ∙ ap (λ (t : Bool). bit (getD g (a * 4 + b / 64) 0) (b % 64) || t) (sym (other (eqb a i) refl (eqb b j) refl))
+        ap (λ (x : ℕ). bit x (b % 64)) (getD-set-other g (i * 9 + j / 64) (a * 9 + b / 64) v 0 (eqb-false (a * 9 + b / 64) (i * 9 + j / 64) e))
+        ∙ sym (or-false (bit (getD g (a * 9 + b / 64) 0) (b % 64)))
+        ∙ ap (λ (t : Bool). bit (getD g (a * 9 + b / 64) 0) (b % 64) || t) (sym (other (eqb a i) refl (eqb b j) refl))
       where
         other : (s : Bool) → eqb a i ≡ s → (t : Bool) → eqb b j ≡ t → (s && t) ≡ false
         other false p t q = refl
         other true p false q = refl
         other true p true q =
-            absurd (eqb-false (a * 4 + b / 64) (i * 4 + j / 64) e
-            (ap₂ (λ (x y : ℕ). x * 4 + y / 64) (eqb-true a i p) (eqb-true b j q)))
+            absurd (eqb-false (a * 9 + b / 64) (i * 9 + j / 64) e
+            (ap₂ (λ (x y : ℕ). x * 9 + y / 64) (eqb-true a i p) (eqb-true b j q)))
 
-    outer : (t : Bool) → ltb b 256 ≡ t → edge (set g (i * 4 + j / 64) v) a b ≡ edge g a b || (eqb a i && eqb b j)
+    outer : (t : Bool) → ltb b 512 ≡ t → edge (set g (i * 9 + j / 64) v) a b ≡ edge g a b || (eqb a i && eqb b j)
     outer true p =
-        let hb : b < 256 = ltb-true b 256 p in
-        edge-is (set g (i * 4 + j / 64) v) a b hb ∙ inner hb (eqb (a * 4 + b / 64) (i * 4 + j / 64)) refl
+        let hb : b < 512 = ltb-true b 512 p in
+        edge-is (set g (i * 9 + j / 64) v) a b hb ∙ inner hb (eqb (a * 9 + b / 64) (i * 9 + j / 64)) refl
         ∙ ap (λ (t : Bool). t || (eqb a i && eqb b j)) (sym (edge-is g a b hb))
     outer false p =
-        let hb : 256 ≤ b = ltb-false b 256 p in
-        edge-past (set g (i * 4 + j / 64) v) a b hb
+        let hb : 512 ≤ b = ltb-false b 512 p in
+        edge-past (set g (i * 9 + j / 64) v) a b hb
         ∙ ap₂ (λ (s t : Bool). s || t) (sym (edge-past g a b hb)) (sym (ap (λ (t : Bool). eqb a i && t) (ne-eqb b j (λ q. omega arith)) ∙ and-false (eqb a i)))
 
--- no row from 256 on
-pub edge-out : (g : List ℕ) (i j : ℕ) → length g ≡ 1024 → 256 ≤ i → edge g i j ≡ false
+-- nor does a ninth word change
+pub edge-ninth : (g : List ℕ) (i j v k : ℕ) → j < 512 → ninth (set g (i * 9 + j / 64) v) k ≡ ninth g k
+unfolding ninth
+edge-ninth g i j v k l = getD-set-other g (i * 9 + j / 64) (k * 9 + 8) v 0 (λ e. omega arith)
+
+-- no row from 512 on
+pub edge-out : (g : List ℕ) (i j : ℕ) → length g ≡ 4608 → 512 ≤ i → edge g i j ≡ false
 unfolding edge
 edge-out g i j e h =
-    ap (λ (w : ℕ). ltb j 256 && bit w (j % 64)) (List·getD-eq-default g 0 {n = i * 4 + j / 64} (omega arith))
-    ∙ ap (λ (t : Bool). ltb j 256 && t) (bit-zero (j % 64)) ∙ and-false (ltb j 256)
+    ap (λ (w : ℕ). ltb j 512 && bit w (j % 64)) (List·getD-eq-default g 0 {n = i * 9 + j / 64} (omega arith))
+    ∙ ap (λ (t : Bool). ltb j 512 && t) (bit-zero (j % 64)) ∙ and-false (ltb j 512)
 
 -- no edge in words that are all 0
 pub edge-zeros : (n i j : ℕ) → edge (replicate n 0) i j ≡ false
 unfolding edge
 edge-zeros n i j =
-    ap (λ (w : ℕ). ltb j 256 && bit w (j % 64)) (zero-at n (i * 4 + j / 64))
-    ∙ ap (λ (t : Bool). ltb j 256 && t) (bit-zero (j % 64)) ∙ and-false (ltb j 256)
+    ap (λ (w : ℕ). ltb j 512 && bit w (j % 64)) (zero-at n (i * 9 + j / 64))
+    ∙ ap (λ (t : Bool). ltb j 512 && t) (bit-zero (j % 64)) ∙ and-false (ltb j 512)
 
--- the four words of row i
+-- the eight words of the edges of row i
 abbrev pub rowOf : List ℕ → ℕ → List ℕ
-rowOf g i = getD g (i * 4) 0 ∷ getD g (i * 4 + 1) 0 ∷ getD g (i * 4 + 2) 0 ∷ getD g (i * 4 + 3) 0 ∷ []
+rowOf g i =
+    getD g (i * 9) 0 ∷ getD g (i * 9 + 1) 0 ∷ getD g (i * 9 + 2) 0 ∷ getD g (i * 9 + 3) 0 ∷ getD g (i * 9 + 4) 0 ∷ getD g (i * 9 + 5) 0 ∷ getD g (i * 9 + 6) 0 ∷ getD g (i * 9 + 7) 0 ∷ []
 
-row-at : (g : List ℕ) (i k : ℕ) → k < 4 → getD (rowOf g i) k 0 ≡ getD g (i * 4 + k) 0
-row-at g i zero h = ap (λ (n : ℕ). getD g n 0) (sym (add-zero (i * 4)))
+row-at : (g : List ℕ) (i k : ℕ) → k < 8 → getD (rowOf g i) k 0 ≡ getD g (i * 9 + k) 0
+row-at g i zero h = ap (λ (n : ℕ). getD g n 0) (sym (add-zero (i * 9)))
 row-at g i (suc zero) h = refl
 row-at g i (suc (suc zero)) h = refl
 row-at g i (suc (suc (suc zero))) h = refl
-row-at g i (suc (suc (suc (suc k)))) h = absurd (omega arith)
+row-at g i (suc (suc (suc (suc zero)))) h = refl
+row-at g i (suc (suc (suc (suc (suc zero))))) h = refl
+row-at g i (suc (suc (suc (suc (suc (suc zero)))))) h = refl
+row-at g i (suc (suc (suc (suc (suc (suc (suc zero))))))) h = refl
+row-at g i (suc (suc (suc (suc (suc (suc (suc (suc k)))))))) h = absurd (omega arith)
 
 pub row-edges : (g : List ℕ) (i j : ℕ) → holds (rowOf g i) j ≡ edge g i j
 unfolding holds
-row-edges g i j = go (ltb j 256) refl
+row-edges g i j = go (ltb j 512) refl
   where
-    go : (t : Bool) → ltb j 256 ≡ t → bit (getD (rowOf g i) (j / 64) 0) (j % 64) ≡ edge g i j
+    go : (t : Bool) → ltb j 512 ≡ t → bit (getD (rowOf g i) (j / 64) 0) (j % 64) ≡ edge g i j
     go true h =
-        let l : j < 256 = ltb-true j 256 h in
+        let l : j < 512 = ltb-true j 512 h in
         ap (λ (w : ℕ). bit w (j % 64)) (row-at g i (j / 64) (omega arith)) ∙ sym (edge-is g i j l)
     go false h =
-        let l : 256 ≤ j = ltb-false j 256 h in
+        let l : 512 ≤ j = ltb-false j 512 h in
         holds-out (rowOf g i) j refl l ∙ sym (edge-past g i j l)
-
--- ---- one edge is asked for
-pub edge-in : (g : List ℕ) (i j : ℕ) (r : Bool) → j < 256 → r ≡ bit (getD g (i * 4 + j / 64) 0) (j % 64) → r ≡ edge g i j
-edge-in g i j r h e = e ∙ sym (edge-is g i j h)
-
-pub no-target : (g : List ℕ) (i j : ℕ) → 256 ≤ j → false ≡ edge g i j
-no-target g i j h = sym (edge-past g i j h)
-
-pub no-source : (g : List ℕ) (i j : ℕ) → length g ≡ 1024 → 256 ≤ i → false ≡ edge g i j
-no-source g i j n h = sym (edge-out g i j n h)
-
-pub ruleset edge-laws = (edge-in, no-target, no-source)
-
--- ---- one edge is added
-pub added-in : (g : List ℕ) (i j v : ℕ) → length g ≡ 1024 → i < 256 → j < 256
-    → ((b : ℕ) → bit v b ≡ bit (getD g (i * 4 + j / 64) 0) b || eqb b (j % 64)) → AddedEdge g i j (set g (i * 4 + j / 64) v)
-added-in g i j v n hi hj h = record {
-  edges = λ _ _. edge-added g i j v hj (omega arith) h;
-  past-source = λ l. absurd (omega arith);
-  past-target = λ l. absurd (omega arith);
-}
-
-pub added-source : (g : List ℕ) (i j : ℕ) → 256 ≤ i → AddedEdge g i j g
-added-source g i j h = record { edges = λ l _. absurd (omega arith); past-source = λ _. refl; past-target = λ _. refl }
-
-pub added-target : (g : List ℕ) (i j : ℕ) → 256 ≤ j → AddedEdge g i j g
-added-target g i j h = record { edges = λ _ l. absurd (omega arith); past-source = λ _. refl; past-target = λ _. refl }
-
-pub ruleset added-laws = (added-in, added-source, added-target)
 
 -- ---- the edges to what a row does not hold
 
@@ -148,54 +129,77 @@ lackWord w x = bitAnd w ((2 ^ 64 - 1) - x)
 
 abbrev pub lackWords : List ℕ → ℕ → List ℕ → List ℕ
 lackWords g i out =
-    lackWord (getD g (i * 4) 0) (getD out 0 0) ∷ lackWord (getD g (i * 4 + 1) 0) (getD out 1 0)
-    ∷ lackWord (getD g (i * 4 + 2) 0) (getD out 2 0) ∷ lackWord (getD g (i * 4 + 3) 0) (getD out 3 0) ∷ []
+    lackWord (getD g (i * 9) 0) (getD out 0 0) ∷ lackWord (getD g (i * 9 + 1) 0) (getD out 1 0) ∷ lackWord (getD g (i * 9 + 2) 0) (getD out 2 0) ∷ lackWord (getD g (i * 9 + 3) 0) (getD out 3 0) ∷ lackWord (getD g (i * 9 + 4) 0) (getD out 4 0) ∷ lackWord (getD g (i * 9 + 5) 0) (getD out 5 0) ∷ lackWord (getD g (i * 9 + 6) 0) (getD out 6 0) ∷ lackWord (getD g (i * 9 + 7) 0) (getD out 7 0) ∷ []
 
-lack-at : (g : List ℕ) (i : ℕ) (out : List ℕ) (k : ℕ) → k < 4 → getD (lackWords g i out) k 0 ≡ lackWord (getD g (i * 4 + k) 0) (getD out k 0)
-lack-at g i out zero h = ap (λ (n : ℕ). lackWord (getD g n 0) (getD out 0 0)) (sym (add-zero (i * 4)))
+lack-at : (g : List ℕ) (i : ℕ) (out : List ℕ) (k : ℕ) → k < 8 → getD (lackWords g i out) k 0 ≡ lackWord (getD g (i * 9 + k) 0) (getD out k 0)
+lack-at g i out zero h = ap (λ (n : ℕ). lackWord (getD g n 0) (getD out 0 0)) (sym (add-zero (i * 9)))
 lack-at g i out (suc zero) h = refl
 lack-at g i out (suc (suc zero)) h = refl
 lack-at g i out (suc (suc (suc zero))) h = refl
-lack-at g i out (suc (suc (suc (suc k)))) h = absurd (omega arith)
+lack-at g i out (suc (suc (suc (suc zero)))) h = refl
+lack-at g i out (suc (suc (suc (suc (suc zero))))) h = refl
+lack-at g i out (suc (suc (suc (suc (suc (suc zero)))))) h = refl
+lack-at g i out (suc (suc (suc (suc (suc (suc (suc zero))))))) h = refl
+lack-at g i out (suc (suc (suc (suc (suc (suc (suc (suc k)))))))) h = absurd (omega arith)
 
 pub lacking-is : (g : List ℕ) (i : ℕ) (out : List ℕ) → ((k : ℕ) → Fits w64 (getD out k 0)) → Lacking g i out (lackWords g i out)
 unfolding lacks holds
-lacking-is g i out f = record { each = λ j. go j (ltb j 256) refl }
+lacking-is g i out f = record { each = λ j. go j (ltb j 512) refl }
   where
-    go : (j : ℕ) (t : Bool) → ltb j 256 ≡ t → holds (lackWords g i out) j ≡ edge g i j && not (holds out j)
+    go : (j : ℕ) (t : Bool) → ltb j 512 ≡ t → holds (lackWords g i out) j ≡ edge g i j && not (holds out j)
     go j true h =
-        let l : j < 256 = ltb-true j 256 h in
-        let w = getD g (i * 4 + j / 64) 0 in
+        let l : j < 512 = ltb-true j 512 h in
+        let w = getD g (i * 9 + j / 64) 0 in
         let x = getD out (j / 64) 0 in
         ap (λ (y : ℕ). bit y (j % 64)) (lack-at g i out (j / 64) (omega arith))
         ∙ bit-and w ((2 ^ 64 - 1) - x) (j % 64)
         ∙ ap₂ (λ (s t : Bool). s && t) (sym (edge-is g i j l)) (bit-not 64 x (j % 64) (f (j / 64) .fits) (omega arith))
     go j false h =
-        let l : 256 ≤ j = ltb-false j 256 h in
+        let l : 512 ≤ j = ltb-false j 512 h in
         holds-out (lackWords g i out) j refl l ∙ ap (λ (t : Bool). t && not (holds out j)) (sym (edge-past g i j l))
 
--- the four words in one: it is 0 only where all are
-abbrev pub anyWord : ℕ → ℕ → ℕ → ℕ → ℕ
-anyWord a b c d = bitOr (bitOr (bitOr a b) c) d
+-- the eight words in one: it is 0 only where all are
+abbrev pub anyWord : ℕ → ℕ → ℕ → ℕ → ℕ → ℕ → ℕ → ℕ → ℕ
+anyWord a b c d e f g h = bitOr (bitOr (bitOr (bitOr (bitOr (bitOr (bitOr a b) c) d) e) f) g) h
 
-none-of : (a b c d : Bool) → (((a || b) || c) || d) ≡ false → (a ≡ false) × (b ≡ false) × (c ≡ false) × (d ≡ false)
-none-of false false false false e = (refl, refl, refl, refl)
-none-of true b c d e = true≠false refl e
-none-of false true c d e = true≠false refl e
-none-of false false true d e = true≠false refl e
-none-of false false false true e = true≠false refl e
+-- two words in one
+or-zero : (a b k : ℕ) → bit (bitOr a b) k ≡ false → (bit a k ≡ false) × (bit b k ≡ false)
+or-zero a b k h = let o : (bit a k || bit b k) ≡ false = sym (bit-or a b k) ∙ h in (neither-left (bit a k) (bit b k) o, neither-right (bit a k) (bit b k) o)
 
-any-bits : (a b c d k : ℕ) → anyWord a b c d ≡ 0 → (bit a k ≡ false) × (bit b k ≡ false) × (bit c k ≡ false) × (bit d k ≡ false)
-any-bits a b c d k e = none-of (bit a k) (bit b k) (bit c k) (bit d k)
-    (sym (bit-or (bitOr (bitOr a b) c) d k ∙ ap (λ (t : Bool). t || bit d k) (bit-or (bitOr a b) c k ∙ ap (λ (t : Bool). t || bit c k) (bit-or a b k)))
-    ∙ ap (λ (w : ℕ). bit w k) e ∙ bit-zero k)
+any-at : (a b c d e f g h i k : ℕ) → anyWord a b c d e f g h ≡ 0 → bit (getD (a ∷ b ∷ c ∷ d ∷ e ∷ f ∷ g ∷ h ∷ []) i 0) k ≡ false
+any-at a b c d e f g h i k z = at i
+  where
+    o₇ : (bit (bitOr (bitOr (bitOr (bitOr (bitOr (bitOr a b) c) d) e) f) g) k ≡ false) × (bit h k ≡ false)
+    o₇ = or-zero (bitOr (bitOr (bitOr (bitOr (bitOr (bitOr a b) c) d) e) f) g) h k (ap (λ (w : ℕ). bit w k) z ∙ bit-zero k)
 
-any-at : (a b c d i k : ℕ) → anyWord a b c d ≡ 0 → bit (getD (a ∷ b ∷ c ∷ d ∷ []) i 0) k ≡ false
-any-at a b c d zero k e = any-bits a b c d k e .0
-any-at a b c d (suc zero) k e = any-bits a b c d k e .1
-any-at a b c d (suc (suc zero)) k e = any-bits a b c d k e .2
-any-at a b c d (suc (suc (suc zero))) k e = any-bits a b c d k e .3
-any-at a b c d (suc (suc (suc (suc i)))) k e = bit-zero k
+    o₆ : (bit (bitOr (bitOr (bitOr (bitOr (bitOr a b) c) d) e) f) k ≡ false) × (bit g k ≡ false)
+    o₆ = or-zero (bitOr (bitOr (bitOr (bitOr (bitOr a b) c) d) e) f) g k (o₇ .0)
+
+    o₅ : (bit (bitOr (bitOr (bitOr (bitOr a b) c) d) e) k ≡ false) × (bit f k ≡ false)
+    o₅ = or-zero (bitOr (bitOr (bitOr (bitOr a b) c) d) e) f k (o₆ .0)
+
+    o₄ : (bit (bitOr (bitOr (bitOr a b) c) d) k ≡ false) × (bit e k ≡ false)
+    o₄ = or-zero (bitOr (bitOr (bitOr a b) c) d) e k (o₅ .0)
+
+    o₃ : (bit (bitOr (bitOr a b) c) k ≡ false) × (bit d k ≡ false)
+    o₃ = or-zero (bitOr (bitOr a b) c) d k (o₄ .0)
+
+    o₂ : (bit (bitOr a b) k ≡ false) × (bit c k ≡ false)
+    o₂ = or-zero (bitOr a b) c k (o₃ .0)
+
+    o₁ : (bit a k ≡ false) × (bit b k ≡ false)
+    o₁ = or-zero a b k (o₂ .0)
+
+    at : (i : ℕ) → bit (getD (a ∷ b ∷ c ∷ d ∷ e ∷ f ∷ g ∷ h ∷ []) i 0) k ≡ false
+    at zero = o₁ .0
+    at (suc zero) = o₁ .1
+    at (suc (suc zero)) = o₂ .1
+    at (suc (suc (suc zero))) = o₃ .1
+    at (suc (suc (suc (suc zero)))) = o₄ .1
+    at (suc (suc (suc (suc (suc zero))))) = o₅ .1
+    at (suc (suc (suc (suc (suc (suc zero)))))) = o₆ .1
+    at (suc (suc (suc (suc (suc (suc (suc zero))))))) = o₇ .1
+    at (suc (suc (suc (suc (suc (suc (suc (suc i)))))))) = bit-zero k
 
 none-zero : (w : ℕ) → not (eqb w 0) ≡ false → w ≡ 0
 none-zero w e = go (eqb w 0) refl e
@@ -205,20 +209,19 @@ none-zero w e = go (eqb w 0) refl e
     go false _ k = true≠false refl k
 
 pub any-lacking : (g : List ℕ) (i : ℕ) (out : List ℕ) → ((k : ℕ) → Fits w64 (getD out k 0))
-    → AnyLacking g i out (not (eqb (anyWord (lackWord (getD g (i * 4) 0) (getD out 0 0)) (lackWord (getD g (i * 4 + 1) 0) (getD out 1 0))
-    (lackWord (getD g (i * 4 + 2) 0) (getD out 2 0)) (lackWord (getD g (i * 4 + 3) 0) (getD out 3 0))) 0))
+    → AnyLacking g i out (not (eqb (anyWord (lackWord (getD g (i * 9) 0) (getD out 0 0)) (lackWord (getD g (i * 9 + 1) 0) (getD out 1 0)) (lackWord (getD g (i * 9 + 2) 0) (getD out 2 0)) (lackWord (getD g (i * 9 + 3) 0) (getD out 3 0)) (lackWord (getD g (i * 9 + 4) 0) (getD out 4 0)) (lackWord (getD g (i * 9 + 5) 0) (getD out 5 0)) (lackWord (getD g (i * 9 + 6) 0) (getD out 6 0)) (lackWord (getD g (i * 9 + 7) 0) (getD out 7 0))) 0))
 unfolding holds
-any-lacking g i out f = record { none = λ e j. sym (lacking-is g i out f .each j) ∙ any-at _ _ _ _ (j / 64) (j % 64) (none-zero _ e) }
+any-lacking g i out f = record { none = λ e j. sym (lacking-is g i out f .each j) ∙ any-at _ _ _ _ _ _ _ _ (j / 64) (j % 64) (none-zero _ e) }
 
-pub any-past : (g : List ℕ) (i : ℕ) (out : List ℕ) → length g ≡ 1024 → 256 ≤ i → AnyLacking g i out false
+pub any-past : (g : List ℕ) (i : ℕ) (out : List ℕ) → length g ≡ 4608 → 512 ≤ i → AnyLacking g i out false
 unfolding lacks
 any-past g i out e l = record { none = λ _ j. ap (λ (t : Bool). t && not (holds out j)) (edge-out g i j e l) }
 
 pub ruleset any-lacking-laws = (any-lacking, any-past)
 
 -- the next position of the row of such edges is the next such edge
-pub next-lacking : (g : List ℕ) (i : ℕ) (out ws : List ℕ) (k r : ℕ) → Lacking g i out ws → FirstFrom (holds ws) k 256 r
-    → FirstFrom (lacks g i out) k 256 r
+pub next-lacking : (g : List ℕ) (i : ℕ) (out ws : List ℕ) (k r : ℕ) → Lacking g i out ws → FirstFrom (holds ws) k 512 r
+    → FirstFrom (lacks g i out) k 512 r
 next-lacking g i out ws k r h n = record {
   from = n .from;
   within = n .within;
@@ -226,7 +229,7 @@ next-lacking g i out ws k r h n = record {
   found = λ l. sym (h .each r) ∙ n .found l;
 }
 
-pub no-edge : (g : List ℕ) (i : ℕ) (out : List ℕ) (k : ℕ) → length g ≡ 1024 → k ≤ 256 → 256 ≤ i → FirstFrom (lacks g i out) k 256 256
+pub no-edge : (g : List ℕ) (i : ℕ) (out : List ℕ) (k : ℕ) → length g ≡ 4608 → k ≤ 512 → 512 ≤ i → FirstFrom (lacks g i out) k 512 512
 unfolding lacks
 no-edge g i out k e h l = record {
   from = h;
@@ -235,4 +238,7 @@ no-edge g i out k e h l = record {
   found = λ m. absurd (omega arith);
 }
 
-pub ruleset next-edge-laws = (next-lacking, no-edge)
+pub none-lacking : (g : List ℕ) (i : ℕ) (out : List ℕ) (k : ℕ) (r : Bool) → k ≤ 512 → AnyLacking g i out r → r ≡ false → FirstFrom (lacks g i out) k 512 512
+none-lacking g i out k r h a e = record { from = h; within = omega arith; none = λ j _ _. a .none e j; found = λ m. absurd (omega arith) }
+
+pub ruleset next-edge-laws = (next-lacking, none-lacking, no-edge)

@@ -24,13 +24,13 @@ no-lack true false h e = true≠false refl h
 no-lack false b h e = true≠false e refl
 
 -- a visit of m would add nothing
-still : (g : List ℕ) (m : ℕ) (ws : List ℕ) (r : Bool) → AnyLacking g m ws r → r ≡ false → Collected g m 256 ws ws
+still : (g : List ℕ) (m : ℕ) (ws : List ℕ) (r : Bool) → AnyLacking g m ws r → r ≡ false → Collected g m 512 ws ws
 unfolding lacks
-still g m ws r a e = skip g m 0 256 ws ws (start g m ws) (λ i _ _ d. no-lack (edge g m i) (holds ws i) (a .none e i) d)
+still g m ws r a e = skip g m 0 512 ws ws (start g m ws) (λ i _ _ d. no-lack (edge g m i) (holds ws i) (a .none e i) d)
 
 -- the successors of m below k are looked at
 pub record CollectAt (g : List ℕ) (m : ℕ) (before out : List ℕ) (k : ℕ) : Type 0 where
-  pub within : k ≤ 256
+  pub within : k ≤ 512
   pub so-far : Collected g m k before out
 
 pub collect-start : (g : List ℕ) (m : ℕ) (ws : List ℕ) → CollectAt g m ws ws 0
@@ -38,17 +38,17 @@ collect-start g m ws = record { within = omega arith; so-far = start g m ws }
 
 module _ {g : List ℕ} {m : ℕ} {before out : List ℕ} {k : ℕ} (h : CollectAt g m before out k) where
   -- from k to the next successor j that is not marked
-  module _ (j : ℕ) (n : FirstFrom (lacks g m out) k 256 j) where
+  module _ (j : ℕ) (n : FirstFrom (lacks g m out) k 512 j) where
     passed : Collected g m j before out
     unfolding lacks
     passed = skip g m k j before out (h .so-far) (λ i f l e. no-lack (edge g m i) (holds out i) (n .none i f l) e)
 
     -- there is none
-    pub collect-none : 256 ≤ j → Collected g m 256 before out
-    collect-none l = let q : j ≡ 256 = omega (arith, n .within) in subst (λ (i : ℕ). Collected g m i before out) q passed
+    pub collect-none : 512 ≤ j → Collected g m 512 before out
+    collect-none l = let q : j ≡ 512 = omega (arith, n .within) in subst (λ (i : ℕ). Collected g m i before out) q passed
 
     -- j is marked now, and visited
-    pub collect-visit : (marked after : List ℕ) → j < 256 → Added out j marked → Collected g j 256 marked after
+    pub collect-visit : (marked after : List ℕ) → j < 512 → Added out j marked → Collected g j 512 marked after
         → CollectAt g m before after (j + 1)
     unfolding lacks
     collect-visit marked after l w v = record {
@@ -57,24 +57,24 @@ module _ {g : List ℕ} {m : ℕ} {before out : List ℕ} {k : ℕ} (h : Collect
     }
 
     -- j is marked now, and a visit would add nothing
-    pub collect-still : (marked : List ℕ) (r : Bool) → j < 256 → Added out j marked → AnyLacking g j marked r → r ≡ false
+    pub collect-still : (marked : List ℕ) (r : Bool) → j < 512 → Added out j marked → AnyLacking g j marked r → r ≡ false
         → CollectAt g m before marked (j + 1)
     collect-still marked r l w a e = collect-visit marked marked l w (still g j marked r a e)
 
-    pub collect-fewer : (marked : List ℕ) (t : ℕ) → j < 256 → Added out j marked → unmarked before ≡ t → unmarked marked < t
+    pub collect-fewer : (marked : List ℕ) (t : ℕ) → j < 512 → Added out j marked → unmarked before ≡ t → unmarked marked < t
     unfolding lacks
     collect-fewer marked t l w q =
         subst (λ (x : ℕ). unmarked marked < x) q
         (fewer g m j before out marked l passed (lack-mark (edge g m j) (holds out j) (n .found l)) (w .below l))
 
-  pub collect-end : 256 ≤ k → Collected g m 256 before out
-  collect-end l = let q : k ≡ 256 = omega (arith, h .within) in subst (λ (i : ℕ). Collected g m i before out) q (h .so-far)
+  pub collect-end : 512 ≤ k → Collected g m 512 before out
+  collect-end l = let q : k ≡ 512 = omega (arith, h .within) in subst (λ (i : ℕ). Collected g m i before out) q (h .so-far)
 
 pub ruleset collect-laws = (collect-start, collect-none, collect-visit, collect-still, collect-fewer, collect-end)
 
 -- the positions of `from` below k are visited
 pub record GatherAt (g from out : List ℕ) (k : ℕ) : Type 0 where
-  pub within : k ≤ 256
+  pub within : k ≤ 512
   pub so-far : Gathered g k from out
 
 pub reach-start : (g from : List ℕ) → GatherAt g from from 0
@@ -82,25 +82,25 @@ reach-start g from = record { within = omega arith; so-far = gather-start g from
 
 module _ {g from out : List ℕ} {k : ℕ} (h : GatherAt g from out k) where
   -- from k to the next position m of the row
-  module _ (m : ℕ) (n : FirstFrom (holds from) k 256 m) where
+  module _ (m : ℕ) (n : FirstFrom (holds from) k 512 m) where
     gathered : Gathered g m from out
     gathered = gather-skip g from k m out (h .so-far) (n .none)
 
     -- there is none
-    pub reach-none : length g ≡ 1024 → 256 ≤ m → ReachedFrom g from out
+    pub reach-none : length g ≡ 4608 → 512 ≤ m → ReachedFrom g from out
     reach-none e l =
-        let q : m ≡ 256 = omega (arith, n .within) in
+        let q : m ≡ 512 = omega (arith, n .within) in
         gather-all g from out e (subst (λ (i : ℕ). Gathered g i from out) q gathered)
 
-    pub reach-visit : (after : List ℕ) → m < 256 → Collected g m 256 out after → GatherAt g from after (m + 1)
+    pub reach-visit : (after : List ℕ) → m < 512 → Collected g m 512 out after → GatherAt g from after (m + 1)
     reach-visit after l v = record { within = omega arith; so-far = gather-visit g from m out after gathered (n .found l) v }
 
-    pub reach-still : (r : Bool) → m < 256 → AnyLacking g m out r → r ≡ false → GatherAt g from out (m + 1)
+    pub reach-still : (r : Bool) → m < 512 → AnyLacking g m out r → r ≡ false → GatherAt g from out (m + 1)
     reach-still r l a e = reach-visit out l (still g m out r a e)
 
-  pub reach-end : length g ≡ 1024 → 256 ≤ k → ReachedFrom g from out
+  pub reach-end : length g ≡ 4608 → 512 ≤ k → ReachedFrom g from out
   reach-end e l =
-      let q : k ≡ 256 = omega (arith, h .within) in
+      let q : k ≡ 512 = omega (arith, h .within) in
       gather-all g from out e (subst (λ (i : ℕ). Gathered g i from out) q (h .so-far))
 
 pub ruleset reach-laws = (reach-start, reach-none, reach-visit, reach-still, reach-end)

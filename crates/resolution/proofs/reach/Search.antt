@@ -43,7 +43,7 @@ module _ (g : List ℕ) (m : ℕ) where
 
   -- k is a successor, and is marked and visited
   module _ (k : ℕ) (before out marked after : List ℕ) (s : Collected g m k before out) (e : edge g m k ≡ true)
-      (w : (j : ℕ) → holds marked j ≡ holds out j || eqb j k) (v : Collected g k 256 marked after) where
+      (w : (j : ℕ) → holds marked j ≡ holds out j || eqb j k) (v : Collected g k 512 marked after) where
     keeps : (j : ℕ) → holds out j ≡ true → holds after j ≡ true
     keeps j h = v .kept j (w j ∙ or-left (holds out j) (eqb j k) h)
 
@@ -68,11 +68,11 @@ module _ (g : List ℕ) (m : ℕ) where
     }
 
   -- fewer positions are unmarked at a visit
-  pub fewer : (k : ℕ) (before out marked : List ℕ) → k < 256 → Collected g m k before out → holds out k ≡ false
+  pub fewer : (k : ℕ) (before out marked : List ℕ) → k < 512 → Collected g m k before out → holds out k ≡ false
       → ((j : ℕ) → holds marked j ≡ holds out j || eqb j k) → unmarked marked < unmarked before
   unfolding unmarked
   fewer k before out marked l s u w =
-      count-strict (λ j. not (holds marked j)) (λ j. not (holds before j)) 256 k l
+      count-strict (λ j. not (holds marked j)) (λ j. not (holds before j)) 512 k l
       (λ j b h. un (holds marked j) (holds before j) (λ p. w j ∙ or-left (holds out j) (eqb j k) (s .kept j p)) h)
       (ap not (w k ∙ or-right (holds out k) (eqb k k) (eq-eqb k k refl)))
       (lack (holds before k) (λ p. true≠false (s .kept k p) u))
@@ -108,7 +108,7 @@ module _ (g from : List ℕ) where
   }
 
   -- k is in the row, and is visited
-  pub gather-visit : (k : ℕ) (out after : List ℕ) → Gathered g k from out → holds from k ≡ true → Collected g k 256 out after → Gathered g (k + 1) from after
+  pub gather-visit : (k : ℕ) (out after : List ℕ) → Gathered g k from out → holds from k ≡ true → Collected g k 512 out after → Gathered g (k + 1) from after
   gather-visit k out after s in-row v = record {
     kept = λ j h. v .kept j (s .kept j h);
     sound = λ j h. ⊎-elim (λ o. s .sound j o) (λ r. inr (k, in-row, r)) (v .sound j h);
@@ -118,10 +118,10 @@ module _ (g from : List ℕ) where
     next = λ m l h i e. ⊎-elim (λ q. v .next i (edge-below g m i e) (subst (λ (x : ℕ). edge g x i ≡ true) q e)) (λ b. v .kept i (s .next m b h i e)) (below-next k m l);
   }
 
-  module _ (after : List ℕ) (len : length g ≡ 1024) (s : Gathered g 256 from after) where
+  module _ (after : List ℕ) (len : length g ≡ 4608) (s : Gathered g 512 from after) where
     -- a successor of what the row holds
     onward : (m k : ℕ) → holds from m ≡ true → edge g m k ≡ true → holds after k ≡ true
-    onward m k h e = ⊎-elim (λ l. s .next m l h k e) (λ l. true≠false e (edge-out g m k len l)) (lt-or-le m 256)
+    onward m k h e = ⊎-elim (λ l. s .next m l h k e) (λ l. true≠false e (edge-out g m k len l)) (lt-or-le m 512)
 
     closes : (m j : ℕ) → holds from m ≡ true → Reach g m j → holds after j ≡ true
     closes m j h (step e) = onward m j h e

@@ -39,8 +39,8 @@ mach-length ws = length-map ws (λ (x : ℕ). vint w64 x)
 
 -- what whoever holds a row knows
 module _ (h : Row) (vs : List Val) (g : Is T.the-row h vs) where
-  pub long : length (h .words) ≡ 4
-  long = length-unmapped ℕ (h .words) 4 (LL.owed T.the-type T′.the-laws h vs g .0 .1 .0 .1)
+  pub long : length (h .words) ≡ 8
+  long = length-unmapped ℕ (h .words) 8 (LL.owed T.the-type T′.the-laws h vs g .0 .1 .0 .1)
 
   pub fits : (i : ℕ) → getD (h .words) i 0 < 2 ^ 64
   fits i = elem-fits-field w64 w64 (h .words) (LL.owed T.the-type T′.the-laws h vs g .0 .0) i (LL.owed T.the-type T′.the-laws h vs g .0 .1 .1) tt .fits
@@ -50,13 +50,13 @@ each-is : (xs : List ℕ) → ((i : ℕ) → getD xs i 0 < 2 ^ 64) → shadow (e
 each-is [] f = tt
 each-is (x ∷ xs) f = ((refl, f zero), each-is xs (λ i. f (suc i)))
 
-words-are : (xs : List ℕ) → length xs ≡ 4 → ((i : ℕ) → getD xs i 0 < 2 ^ 64) → Is (Array u64 4) xs (arrayVal (machs xs) ∷ [])
+words-are : (xs : List ℕ) → length xs ≡ 8 → ((i : ℕ) → getD xs i 0 < 2 ^ 64) → Is (Array u64 8) xs (arrayVal (machs xs) ∷ [])
 words-are xs e f = (machs xs, ((refl, e), each-is xs f))
 
-pub row-is : (ws : List ℕ) → length ws ≡ 4 → ((i : ℕ) → getD ws i 0 < 2 ^ 64) → Is T.the-row (record { words = ws }) (T′.lowered (record { words = ws }) ∷ [])
+pub row-is : (ws : List ℕ) → length ws ≡ 8 → ((i : ℕ) → getD ws i 0 < 2 ^ 64) → Is T.the-row (record { words = ws }) (T′.lowered (record { words = ws }) ∷ [])
 row-is ws e f =
     let h : Row = record { words = ws } in
-    let owes = LL.owes T.the-type T′.the-laws h (subst (λ (xs : List ℕ). Is (Array u64 4) xs (arrayVal (machs xs) ∷ [])) (sym (map-id ws)) (words-are ws e f), tt) in
+    let owes = LL.owes T.the-type T′.the-laws h (subst (λ (xs : List ℕ). Is (Array u64 8) xs (arrayVal (machs xs) ∷ [])) (sym (map-id ws)) (words-are ws e f), tt) in
     subst (Is T.the-row h) (T′.lowers .val-is h (LL.vals T.the-type T′.the-laws h) owes) owes
 
 -- with another word

@@ -1,10 +1,17 @@
 -- The read edges of the request's AR.
-use mathlib.Core.Path.{_≡_, refl, sym, ap, _∙_}
-use mathlib.Core.Bool.{Bool, true, false, _||_, _&&_, or-false, and-false, and-true, or-assoc}
+use mathlib.Core.Path.{_≡_, refl, sym, ap, _∙_, subst}
+use mathlib.Core.Bool.{Bool, true, false, _||_, _&&_, or-false, or-true, and-false, and-true, or-assoc, cond}
 use mathlib.Core.List.{List, map}
-use Prim.Native.Nat.{ℕ, _-_, _≤_, _<_}
+use Prim.Native.Nat.{ℕ, _+_, _*_, _-_, _/_, _%_, _^_, _≤_, _<_}
 use native.Mathlib.Omega.{arith}
-use lib.ListN.{length, take, drop}
+use lib.Bits.{bitOr}
+use lib.Dec.{eqb, ltb}
+use lib.ListN.{length, getD, take, drop, set, length-drop}
+use lib.Seq.{length-take-le, getD-take, getD-drop, getD-set-same, getD-set-other}
+use mir.Syntax.{w64}
+use mir.Val.{Fits}
+use borrow.Author.Tests.{eqb-true, eqb-false, ltb-true, ltb-false, lt-ltb}
+use borrow.Rule.Slice.PartMut.{putMid, set-mid-at}
 use Rattle.records.specs.Bytes.{sameBytes}
 use Rattle.records.specs.Name.{allUnnamed, nameOf, afterName}
 use Rattle.records.specs.Record.{bodies, nextOf}
@@ -18,85 +25,210 @@ use Rattle.records.specs.declared.record.Next.the-variants as Next
 use Rattle.records.specs.declared.record.Kind.the-variants as Kind
 use Rattle.records.proofs.record.Bodies.{bodies-next, bodies-end, next-room, next-less}
 use Rattle.resolution.specs.Lists.{Name, any}
-use Rattle.resolution.specs.Row.{holds, Empty}
-use Rattle.resolution.specs.Graph.{edge, AddedEdge}
-use Rattle.resolution.specs.Readability.{memberOf, isNamed, Below, edgeFrom, unnamedFrom, readAt, unnamedIn, WithMore, WithEdges, ReadAdded, ReadsAdded}
+use Rattle.records.proofs.Logic.{by}
+use Rattle.resolution.specs.Configuration.{withRead}
+use Rattle.resolution.specs.Row.{bit}
+use Rattle.resolution.specs.Graph.{edge, ninth, unnamedEdge}
+use Rattle.resolution.specs.Readability.{memberOf, isNamed, Below, edgesOf, edgeFrom, unnamedFrom, readAt, unnamedIn, WithEdges, WithUnnamed, ReadAdded, ReadsAdded}
+use Rattle.resolution.proofs.row.Bits.{bit-low, bit-or, bit-pow}
+use Rattle.resolution.proofs.reach.Edges.{edge-is, edge-past, edge-added, edge-ninth}
 use Rattle.resolution.proofs.readability.Laws.{at-below, member-below}
 
--- ---- AR
+-- where the row of a member starts, and where its ninth word stands, are numbers of 64 bits
+module _ (source : Found) (i : ℕ) (b : Below source) (e : source ≡ At i) where
+  pub start-fits : Fits w64 (i * 9)
+  start-fits = record { fits = omega (arith, at-below source i b e) }
 
-module _ (source : Found) (target : Name) (row : List ℕ) (t : Bool) (et : t ≡ sameBytes target allUnnamed) where
-  pub unnamed-found : (after : List ℕ) → t ≡ true → WithMore row (isAt source) after → WithMore row (unnamedFrom source target) after
+  pub ninth-fits : Fits w64 (i * 9 + 8)
+  ninth-fits = record { fits = omega (arith, at-below source i b e) }
+
+pub ruleset fits-laws = (start-fits, ninth-fits)
+
+-- ---- an AR to ALL-UNNAMED
+
+-- the ninth word of a row is 1 now: no other ninth word, and no edge, changes
+module _ (rows : List ℕ) (i : ℕ) (n : length rows ≡ 4608) (l : i < 512) where
+  ninth-here : ninth (set rows (i * 9 + 8) 1) i ≡ 1
+  unfolding ninth
+  ninth-here = getD-set-same rows (i * 9 + 8) 1 0 (omega arith)
+
+  ninth-other : (k : ℕ) → (k ≡ i → ⊥) → ninth (set rows (i * 9 + 8) 1) k ≡ ninth rows k
+  unfolding ninth
+  ninth-other k ne = getD-set-other rows (i * 9 + 8) (k * 9 + 8) 1 0 (λ e. ne (omega arith))
+
+  bits-here : (k : ℕ) → unnamedEdge (set rows (i * 9 + 8) 1) k ≡ unnamedEdge rows k || eqb k i
+  unfolding unnamedEdge
+  bits-here k = by (eqb k i)
+      (λ q. rw q (ap (λ (w : ℕ). bit w 0) (ap (ninth (set rows (i * 9 + 8) 1)) (eqb-true k i q) ∙ ninth-here) ∙ bit-low 1 ∙ sym (or-true (bit (ninth rows k) 0))))
+      (λ q. rw q (ap (λ (w : ℕ). bit w 0) (ninth-other k (eqb-false k i q)) ∙ sym (or-false (bit (ninth rows k) 0))))
+
+  small-here : (k : ℕ) → ninth rows k ≤ 1 → ninth (set rows (i * 9 + 8) 1) k ≤ 1
+  small-here k s = by (eqb k i)
+      (λ q. omega (arith, ap (ninth (set rows (i * 9 + 8) 1)) (eqb-true k i q), ninth-here))
+      (λ q. omega (arith, ninth-other k (eqb-false k i q)))
+
+  edges-here : (a b : ℕ) → edge (set rows (i * 9 + 8) 1) a b ≡ edge rows a b
+  edges-here a b = by (ltb b 512)
+      (λ h. let k : b < 512 = ltb-true b 512 h in
+      edge-is (set rows (i * 9 + 8) 1) a b k ∙ ap (λ (w : ℕ). bit w (b % 64)) (getD-set-other rows (i * 9 + 8) (a * 9 + b / 64) 1 0 (λ e. omega arith)) ∙ sym (edge-is rows a b k))
+      (λ h. let k : 512 ≤ b = ltb-false b 512 h in edge-past (set rows (i * 9 + 8) 1) a b k ∙ sym (edge-past rows a b k))
+
+unnamed-same : (rows : List ℕ) (more : ℕ → Bool) → ((k : ℕ) → more k ≡ false) → WithUnnamed rows more rows
+unnamed-same rows more h = record { each = λ k. rw (h k) (sym (or-false (unnamedEdge rows k))); small = λ k s. s; edges = λ i j. refl }
+
+module _ (source : Found) (target : Name) (rows : List ℕ) (t : Bool) (et : t ≡ sameBytes target allUnnamed) where
+  pub unnamed-at : (i : ℕ) → length rows ≡ 4608 → Below source → source ≡ At i → t ≡ true → WithUnnamed rows (unnamedFrom source target) (set rows (i * 9 + 8) 1)
+  unfolding unnamedFrom isAt
+  unnamed-at i n b e y = record {
+    each = λ k. bits-here rows i n (at-below source i b e) k ∙ rw (e, ← et, y) (ap (λ (z : Bool). unnamedEdge rows k || z) (sym (and-true (eqb k i))));
+    small = small-here rows i n (at-below source i b e);
+    edges = edges-here rows i n (at-below source i b e);
+  }
+
+  pub unnamed-nothing : source ≡ Nothing → WithUnnamed rows (unnamedFrom source target) rows
+  unfolding unnamedFrom isAt
+  unnamed-nothing e = unnamed-same rows (unnamedFrom source target) (λ k. rw e)
+
+  pub unnamed-other : t ≡ false → WithUnnamed rows (unnamedFrom source target) rows
   unfolding unnamedFrom
-  unnamed-found after y w = record { each = λ j. w .each j ∙ rw (← et, y) (ap (λ (b : Bool). holds row j || b) (sym (and-true (isAt source j)))) }
+  unnamed-other f = unnamed-same rows (unnamedFrom source target) (λ k. rw (← et, f) (and-false (isAt source k)))
 
-  pub unnamed-other : t ≡ false → WithMore row (unnamedFrom source target) row
-  unfolding unnamedFrom
-  unnamed-other f = record { each = λ j. rw (← et, f, and-false (isAt source j)) (sym (or-false (holds row j))) }
+pub unnamed-inside : (rows : List ℕ) (source : Found) (i : ℕ) → length rows ≡ 4608 → Below source → source ≡ At i → i * 9 + 8 < length rows
+unnamed-inside rows source i n b e = omega (arith, n, at-below source i b e)
 
-pub ruleset unnamed-laws = (unnamed-found, unnamed-other)
+pub ruleset unnamed-laws = (fits-laws, unnamed-at, unnamed-nothing, unnamed-other, unnamed-inside, at-below)
+
+-- ---- an edge: the row of its source is lent
+
+module _ (i : ℕ) (target : Found) (before : List ℕ) (n : length before ≡ 4608) (li : i < 512) where
+  row-lent : (j : ℕ) (row : List ℕ) → Below target → target ≡ At j → row ≡ withRead (take 8 (drop (i * 9) before)) j
+      → WithEdges before (edgesOf i (isAt target)) (putMid (i * 9) 8 before row)
+  unfolding edgesOf isAt withRead
+  row-lent j row c f r =
+      subst (WithEdges before (edgesOf i (isAt target))) (sym stored) (record {
+        each = λ x y. edge-added before i j v lj (omega (arith, n, li, lj)) (bit-with-at w (j % 64)) x y ∙ rw f;
+        ninths = λ k. edge-ninth before i j v k lj;
+      })
+    where
+      lj : j < 512
+      lj = at-below target j c f
+
+      w : ℕ
+      w = getD before (i * 9 + j / 64) 0
+
+      v : ℕ
+      v = bitOr w (2 ^ (j % 64))
+
+      bit-with-at : (x p k : ℕ) → bit (bitOr x (2 ^ p)) k ≡ bit x k || eqb k p
+      bit-with-at x p k = bit-or x (2 ^ p) k ∙ ap (λ (z : Bool). bit x k || z) (bit-pow p k)
+
+      part : List ℕ
+      part = take 8 (drop (i * 9) before)
+
+      part-word : getD part (j / 64) 0 ≡ w
+      part-word = getD-take 8 (drop (i * 9) before) (j / 64) 0 (omega (arith, lj)) ∙ getD-drop (i * 9) before (j / 64) 0
+
+      part-long : length part ≡ 8
+      part-long = length-take-le 8 (drop (i * 9) before) (omega (arith, length-drop (i * 9) before, n, li))
+
+      row-is : row ≡ set part (j / 64) v
+      row-is = r ∙ rw (lt-ltb j 512 lj, part-word)
+
+      stored : putMid (i * 9) 8 before row ≡ set before (i * 9 + j / 64) v
+      stored = ap (putMid (i * 9) 8 before) row-is ∙ set-mid-at (i * 9) 8 (j / 64) before v (omega (arith, part-long, lj))
+
+  pub edge-at : (j : ℕ) (row : List ℕ) → Below target → target ≡ At j → row ≡ withRead (take (i * 9 + 8 - i * 9) (drop (i * 9) before)) j
+      → WithEdges before (edgesOf i (isAt target)) (putMid (i * 9) (i * 9 + 8 - i * 9) before row)
+  edge-at j row c f r =
+      let z : i * 9 + 8 - i * 9 ≡ 8 = omega arith in
+      subst (λ (k : ℕ). WithEdges before (edgesOf i (isAt target)) (putMid (i * 9) k before row)) (sym z)
+      (row-lent j row c f (subst (λ (k : ℕ). row ≡ withRead (take k (drop (i * 9) before)) j) z r))
+
+  pub edge-inside : i * 9 + 8 ≤ length before
+  edge-inside = omega (arith, n, li)
+
+pub edge-nothing : (i : ℕ) (target : Found) (before : List ℕ) → target ≡ Nothing → WithEdges before (edgesOf i (isAt target)) before
+unfolding edgesOf isAt
+edge-nothing i target before e = record { each = λ x y. rw (e, and-false (eqb x i)) (sym (or-false (edge before x y))); ninths = λ k. refl }
+
+pub row-start-fits : (i : ℕ) → i < 512 → Fits w64 (i * 9)
+row-start-fits i l = record { fits = omega arith }
+
+pub row-end-fits : (i : ℕ) → i < 512 → Fits w64 (i * 9 + 8)
+row-end-fits i l = record { fits = omega arith }
+
+pub row-bytes-fit : (i : ℕ) → i < 512 → Fits w64 (i * 9 * 8)
+row-bytes-fit i l = record { fits = omega arith }
+
+pub ruleset set-edge-laws = (row-start-fits, row-end-fits, row-bytes-fit, edge-at, edge-inside, edge-nothing, at-below)
+
+-- ---- an AR to a member
 
 module _ (source target : Found) (before : List ℕ) where
-  pub edge-both : (i j : ℕ) (after : List ℕ) → Below source → Below target → source ≡ At i → target ≡ At j → AddedEdge before i j after → WithEdges before (edgeFrom source target) after
-  unfolding edgeFrom isAt
-  edge-both i j after b c e f a = record { each = λ x y. a .edges (at-below source i b e) (at-below target j c f) x y ∙ rw (e, f) }
+  pub read-at : (i : ℕ) (after : List ℕ) → source ≡ At i → WithEdges before (edgesOf i (isAt target)) after → WithEdges before (edgeFrom source target) after
+  unfolding edgeFrom edgesOf isAt
+  read-at i after e w = record { each = λ x y. w .each x y ∙ rw e; ninths = w .ninths }
 
-  pub edge-target : target ≡ Nothing → WithEdges before (edgeFrom source target) before
+  pub read-nothing : source ≡ Nothing → WithEdges before (edgeFrom source target) before
   unfolding edgeFrom isAt
-  edge-target e = record { each = λ x y. rw (e, and-false (isAt source x)) (sym (or-false (edge before x y))) }
+  read-nothing e = record { each = λ x y. rw e (sym (or-false (edge before x y))); ninths = λ k. refl }
 
-  pub edge-source : source ≡ Nothing → WithEdges before (edgeFrom source target) before
-  unfolding edgeFrom isAt
-  edge-source e = record { each = λ x y. rw e (sym (or-false (edge before x y))) }
-
-pub ruleset set-read-laws = (edge-both, edge-target, edge-source, at-below)
+pub ruleset set-read-laws = (read-at, read-nothing, at-below)
 
 -- one AR
-pub add-one : (l : List Name) (ws body u x y : List ℕ) (from to : Found) (before after unnamed unnamed₂ : List ℕ)
+pub add-one : (l : List Name) (ws body u x y : List ℕ) (from to : Found) (before between after : List ℕ)
     → x ≡ nameOf body → u ≡ afterName body → y ≡ nameOf u → from ≡ memberOf ws (findName l x 0) → to ≡ memberOf ws (findName l y 0)
-    → WithMore unnamed (unnamedFrom from y) unnamed₂ → WithEdges before (edgeFrom from to) after → ReadAdded l ws (readOf body) before after unnamed unnamed₂
-unfolding isNamed edgeFrom unnamedFrom readOf
-add-one l ws body u x y from to before after unnamed unnamed₂ ex eu ey ef et w v = record {
-  edges = λ i j. v .each i j ∙ rw (← ex, ← eu, ← ey, ← ef, ← et);
-  named = λ k. w .each k ∙ rw (← ex, ← eu, ← ey, ← ef);
+    → WithEdges before (edgeFrom from to) between → WithUnnamed between (unnamedFrom from y) after → ReadAdded l ws (readOf body) before after
+unfolding isNamed edgeFrom unnamedFrom readOf unnamedEdge
+add-one l ws body u x y from to before between after ex eu ey ef et v w = record {
+  edges = λ i j. w .edges i j ∙ v .each i j ∙ rw (← ex, ← eu, ← ey, ← ef, ← et);
+  named = λ k. w .each k ∙ rw (v .ninths k, ← ex, ← eu, ← ey, ← ef);
+  small = λ k s. w .small k (omega (arith, v .ninths k));
 }
 
 pub ruleset add-one-laws = (add-one, member-below)
 
 -- the AR in front of `at` are added
-pub record AddAt (l : List Name) (ws q before after unnamed : List ℕ) (at : ℕ) : Type 0 where
+pub record AddAt (l : List Name) (ws q before after : List ℕ) (at : ℕ) : Type 0 where
   pub within : at ≤ length q
-  pub long : length after ≡ 1024
+  pub long : length after ≡ 4608
   pub edges : (i j : ℕ) → edge before i j || readAt l ws (map readOf (bodies Kind.AddReads q)) i j
       ≡ edge after i j || readAt l ws (map readOf (bodies Kind.AddReads (drop at q))) i j
-  pub named : (k : ℕ) → unnamedIn l ws (map readOf (bodies Kind.AddReads q)) k
-      ≡ holds unnamed k || unnamedIn l ws (map readOf (bodies Kind.AddReads (drop at q))) k
+  pub named : (k : ℕ) → unnamedEdge before k || unnamedIn l ws (map readOf (bodies Kind.AddReads q)) k
+      ≡ unnamedEdge after k || unnamedIn l ws (map readOf (bodies Kind.AddReads (drop at q))) k
+  pub small : (k : ℕ) → ninth before k ≤ 1 → ninth after k ≤ 1
 
-pub add-start : (l : List Name) (ws q before unnamed : List ℕ) → length before ≡ 1024 → Empty unnamed → AddAt l ws q before before unnamed 0
-add-start l ws q before unnamed n e = record { within = omega arith; long = n; edges = λ i j. refl; named = λ k. rw (e .none k) }
+pub add-start : (l : List Name) (ws q before : List ℕ) → length before ≡ 4608 → AddAt l ws q before before 0
+add-start l ws q before n = record { within = omega arith; long = n; edges = λ i j. refl; named = λ k. refl; small = λ k s. s }
 
-module _ (l : List Name) (ws q before after unnamed : List ℕ) (at : ℕ) (h : AddAt l ws q before after unnamed at) (r : Next) (er : r ≡ nextOf Kind.AddReads q at) where
-  module _ (start len : ℕ) (next : Cursor) (e : r ≡ Next.Body start len next) where
-    pub add-next : (body unnamed₂ after₂ : List ℕ) → body ≡ take len (drop start q)
-        → ReadAdded l ws (readOf body) after after₂ unnamed unnamed₂ → length after₂ ≡ length after → AddAt l ws q before after₂ unnamed₂ (next .at)
-    unfolding readAt unnamedIn any
-    add-next body unnamed₂ after₂ eb w n = record {
-      within = next-room Kind.AddReads q at r er start len next e (h .within);
-      long = n ∙ h .long;
-      edges = λ i j. h .edges i j ∙ rw (bodies-next Kind.AddReads q at r er start len next e (h .within), ← eb, w .edges i j)
-          (sym (or-assoc (edge after i j) (isNamed l ws (readOf body .source) i && isNamed l ws (readOf body .target) j) (readAt l ws (map readOf (bodies Kind.AddReads (drop (next .at) q))) i j)));
-      named = λ k. h .named k ∙ rw (bodies-next Kind.AddReads q at r er start len next e (h .within), ← eb, w .named k)
-          (sym (or-assoc (holds unnamed k) (isNamed l ws (readOf body .source) k && sameBytes (readOf body .target) allUnnamed) (unnamedIn l ws (map readOf (bodies Kind.AddReads (drop (next .at) q))) k)));
+module _ (l : List Name) (ws q before after : List ℕ) (at : ℕ) (h : AddAt l ws q before after at) where
+  pub add-long : length after ≡ 4608
+  add-long = h .long
+
+  module _ (r : Next) (er : r ≡ nextOf Kind.AddReads q at) where
+    module _ (start len : ℕ) (next : Cursor) (e : r ≡ Next.Body start len next) where
+      pub add-next : (body after₂ : List ℕ) → body ≡ take len (drop start q)
+          → ReadAdded l ws (readOf body) after after₂ → length after₂ ≡ length after → AddAt l ws q before after₂ (next .at)
+      unfolding readAt unnamedIn any
+      add-next body after₂ eb w n = record {
+        within = next-room Kind.AddReads q at r er start len next e (h .within);
+        long = n ∙ h .long;
+        edges = λ i j. h .edges i j ∙ rw (bodies-next Kind.AddReads q at r er start len next e (h .within), ← eb, w .edges i j)
+            (sym (or-assoc (edge after i j) (isNamed l ws (readOf body .source) i && isNamed l ws (readOf body .target) j) (readAt l ws (map readOf (bodies Kind.AddReads (drop (next .at) q))) i j)));
+        named = λ k. h .named k ∙ rw (bodies-next Kind.AddReads q at r er start len next e (h .within), ← eb, w .named k)
+            (sym (or-assoc (unnamedEdge after k) (isNamed l ws (readOf body .source) k && sameBytes (readOf body .target) allUnnamed) (unnamedIn l ws (map readOf (bodies Kind.AddReads (drop (next .at) q))) k)));
+        small = λ k s. w .small k (h .small k s);
+      }
+
+      pub add-less : length q - next .at < length q - at
+      add-less = next-less Kind.AddReads q at r er start len next e (h .within)
+
+    pub add-end : r ≡ Next.Nothing → ReadsAdded l ws (requestOf q .addReads) before after
+    unfolding requestOf readAt unnamedIn any
+    add-end e = record {
+      edges = λ i j. sym (h .edges i j ∙ rw (bodies-end Kind.AddReads q at r er e) (or-false (edge after i j)));
+      named = λ k. sym (h .named k ∙ rw (bodies-end Kind.AddReads q at r er e) (or-false (unnamedEdge after k)));
+      small = h .small;
     }
 
-    pub add-less : length q - next .at < length q - at
-    add-less = next-less Kind.AddReads q at r er start len next e (h .within)
-
-  pub add-end : r ≡ Next.Nothing → ReadsAdded l ws (requestOf q .addReads) before after unnamed
-  unfolding requestOf readAt unnamedIn any
-  add-end e = record {
-    edges = λ i j. sym (h .edges i j ∙ rw (bodies-end Kind.AddReads q at r er e) (or-false (edge after i j)));
-    named = λ k. sym (h .named k ∙ rw (bodies-end Kind.AddReads q at r er e) (or-false (holds unnamed k)));
-  }
-
-pub ruleset add-laws = (add-start, add-next, add-less, add-end)
+pub ruleset add-laws = (add-start, add-long, add-next, add-less, add-end)

@@ -1,6 +1,6 @@
 -- The theorem of `read_edges`: the rows and the overrides by positions are `edgeAt` and `unnamedAt`.
 use mathlib.Core.Path.{_≡_, refl, sym, ap, ap₂, _∙_, subst}
-use Prim.Native.Nat.{ℕ, _<_}
+use Prim.Native.Nat.{ℕ, _≤_, _<_}
 use native.Mathlib.Omega.{arith}
 use mathlib.Core.Bool.{Bool, true, false, not, _&&_, _||_, cond}
 use mathlib.Core.List.{List, [], _∷_, map, flatMap, List·Memᴰ·not-nil, List·Memᴰ·cases-cons, List·Memᴰ·append-cases, Memᴰ·cast}
@@ -24,8 +24,8 @@ use Rattle.resolution.specs.Lists.{Name, Mem, keep}
 use Rattle.resolution.specs.Resolution.{names, hasModule, indexOf}
 use Rattle.resolution.specs.Reads.{directReads, requiredNames, impliedReads, readsFrom, reads}
 use Rattle.resolution.specs.Positions.{moduleAt, isVisible}
-use Rattle.resolution.specs.Row.{holds}
-use Rattle.resolution.specs.Graph.{edge}
+use Rattle.resolution.specs.Row.{bit, holds}
+use Rattle.resolution.specs.Graph.{edge, unnamedEdge}
 use Rattle.resolution.specs.Resolve.{edgeAt, unnamedAt}
 use Rattle.resolution.specs.Readability.{tableNames, isNamed, transitiveAt, othersAt, MemberReads, readAt, unnamedIn, TransitiveGraph, ReadRows, ReadsAdded, Members, ReadEdges}
 use Rattle.resolution.proofs.Closure.{closure-least}
@@ -34,6 +34,7 @@ use Rattle.resolution.proofs.Find.{has-some}
 use Rattle.resolution.proofs.Lists.{any-in, any-out, flat-out, keep-out, map-in, map-out, memName-in, memName-out, →same}
 use Rattle.resolution.proofs.Positions.{find-none, at-mem, index-at, visible-in}
 use Rattle.resolution.proofs.Sets.{set-length, module-block}
+use Rattle.resolution.proofs.row.Bits.{bit-zero}
 use Rattle.resolution.proofs.readability.Resolved.{each-way, member-out, member-in, member-is, member-at, named-out, named-in, from-member, own-names, reached-out, reached-direct, reached-implied}
 use Rattle.resolution.proofs.readability.Resolved as Resolved
 
@@ -210,9 +211,9 @@ module _ (s : List Descriptor) (free : memName allUnnamed (names s) ≡ false) (
         (λ n q e. let a = flat-out (Resolved.onward s ws ms h) (directReads m) q in not-onward (a .0) (Memᴰ·cast (sym e) (a .2)))
         allUnnamed k refl
 
-    pub unnamed-is : (out : List ℕ) → ((k : ℕ) → holds out k ≡ unnamedIn (names s) ws (rq .addReads) k) → (k : ℕ) → holds out k ≡ unnamedAt s rq ms k
+    pub unnamed-is : (out : ℕ → Bool) → ((k : ℕ) → out k ≡ unnamedIn (names s) ws (rq .addReads) k) → (k : ℕ) → out k ≡ unnamedAt s rq ms k
     unfolding unnamedAt unnamedIn
-    unnamed-is out eo k = each-way (holds out k) (unnamedAt s rq ms k)
+    unnamed-is out eo k = each-way (out k) (unnamedAt s rq ms k)
         (λ e. let a = any-out (λ (x : Read). isNamed (names s) ws (x .source) k && sameBytes (x .target) allUnnamed) (rq .addReads) (sym (eo k) ∙ e) in
         let x = named-out s ws ms h (a .0 .source) k (and-left (isNamed (names s) ws (a .0 .source) k) (sameBytes (a .0 .target) allUnnamed) (a .2)) in
         let y : a .0 .target ≡ allUnnamed = same-eq (a .0 .target) allUnnamed (and-right (isNamed (names s) ws (a .0 .source) k) (sameBytes (a .0 .target) allUnnamed) (a .2)) in
@@ -262,14 +263,20 @@ module _ (s : List ℕ) (n : ℕ) (t : List ℕ) (e : checkSet s ≡ record { an
       let y : nameOf (drop 2 (x .0)) ≡ allUnnamed = sym (ap (λ (z : Requirement). z .name) (x .2)) ∙ q in
       true≠false (subst (λ (z : Name). sameBytes z allUnnamed ≡ true) (sym y) (same-refl allUnnamed)) f
 
-  module _ (q ws g rows after unnamed : List ℕ) (hg : TransitiveGraph s t n ws g) (hr : ReadRows s t n ws g rows)
-      (ha : ReadsAdded (tableNames s t n) ws (requestOf q .addReads) rows after unnamed) where
-    pub read-edges-are : ReadEdges s q ws after unnamed
+  module _ (q ws g rows after : List ℕ) (hg : TransitiveGraph s t n ws g) (hr : ReadRows s t n ws g rows)
+      (ha : ReadsAdded (tableNames s t n) ws (requestOf q .addReads) rows after) where
+    -- no row has an edge to ALL-UNNAMED before the AR are added
+    none-before : (k : ℕ) → unnamedEdge rows k ≡ false
+    unfolding unnamedEdge
+    none-before k = ap (λ (w : ℕ). bit w 0) (hr .ninths k) ∙ bit-zero 0
+
+    pub read-edges-are : ReadEdges s q ws after
     read-edges-are = record {
       edges = λ ms h i j. edge-is (modules s) (good .named) ws ms h (requestOf q) g rows after (graph ms h) (own ms h) (λ x f y. hr .each x .other f y)
           (λ x y. ha .edges x y ∙ ap (λ (l : List Name). edge rows x y || readAt l ws (requestOf q .addReads) x y) (good .names)) i j;
-      named = λ ms h k. unnamed-is (modules s) (good .named) ws ms h (requestOf q) never-required unnamed
-          (λ x. ha .named x ∙ ap (λ (l : List Name). unnamedIn l ws (requestOf q .addReads) x) (good .names)) k;
+      named = λ ms h k. unnamed-is (modules s) (good .named) ws ms h (requestOf q) never-required (unnamedEdge after)
+          (λ x. ha .named x ∙ rw (none-before x) (ap (λ (l : List Name). unnamedIn l ws (requestOf q .addReads) x) (good .names))) k;
+      small = λ k. ha .small k (omega (arith, hr .ninths k));
     }
       where
         -- the block of a member is that of its module

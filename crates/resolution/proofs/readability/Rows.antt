@@ -1,71 +1,203 @@
--- The rows of all modules: each is written anew, first what its module reads directly, then all that it reads without AR.
-use mathlib.Core.Path.{_≡_, sym, _∙_, subst}
-use mathlib.Core.Bool.{Bool, false}
-use mathlib.Core.List.{List}
-use Prim.Native.Nat.{ℕ, _+_, _*_, _-_, _≤_, _<_}
+-- The rows of the members, where they lie: each is written, first what its module reads directly, then all that it reads without AR.
+use mathlib.Core.Path.{_≡_, refl, sym, ap, _∙_, subst}
+use mathlib.Core.Bool.{Bool, true, false, or-false}
+use mathlib.Core.List.{List, _++_}
+use Prim.Native.Nat.{ℕ, _+_, _*_, _-_, _/_, _%_, _≤_, _<_}
 use native.Mathlib.Omega.{arith}
-use native.Mathlib.Nat.{eq-or-lt-of-le}
+use native.Mathlib.Nat.{eq-or-lt-of-le, add-zero}
 use mathlib.Core.Logic.{⊎-elim}
 use lib.Dec.{eqb, ltb}
-use lib.ListN.{length, set, length-set}
-use borrow.Author.Tests.{eqb-true, eqb-false, ltb-true, ltb-false}
+use lib.ListN.{length, getD, take, drop, set, replicate, length-set, length-replicate, getD-replicate, List·getD-append}
+use lib.Seq.{length-take-le, getD-append-add, getD-take, getD-drop, getD-set-same, getD-set-other, ext-getD}
+use borrow.Author.Tests.{eq-eqb, ne-eqb, eqb-true, eqb-false, ltb-true, ltb-false}
 use Rattle.records.specs.Descriptor.{Descriptor, descriptorOf}
+use Rattle.records.specs.Output.{written}
 use Rattle.records.specs.Set.{blockAt}
 use Rattle.records.proofs.Logic.{true≠false, by}
+use Rattle.records.proofs.output.Written.{PutAt, put-start, put-more, put-done}
 use Rattle.resolution.specs.Lists.{Name}
-use Rattle.resolution.specs.Row.{holds}
-use Rattle.resolution.specs.Graph.{edge, Successors}
-use Rattle.resolution.specs.Readability.{tableNames, directFrom, transitiveAt, ModuleReads, Holding, RowSet, TransitiveGraph, DirectRows, ReadRows}
-use Rattle.resolution.proofs.row.Laws.{holds-out}
-use Rattle.resolution.proofs.reach.Edges.{edge-out}
-use Rattle.resolution.proofs.configuration.Laws.{anew, put-here, put-others}
+use Rattle.resolution.specs.Row.{bit, holds, FirstFrom}
+use Rattle.resolution.specs.Graph.{edge, ninth, Successors}
+use Rattle.resolution.specs.Readability.{tableNames, requiredAt, directAt, directFrom, transitiveAt, edgesOf, ModuleReads, Holding, WithEdges, RowSet, TransitiveGraph, DirectRows, ReadRows}
+use Rattle.resolution.proofs.row.Laws.{holds-out, zero-at}
+use Rattle.resolution.proofs.reach.Edges.{edge-is, edge-past, edge-out, edge-zeros, rowOf, row-edges}
+
+-- ---- words written among others
+
+pub put-end : (o : List ℕ) (at : ℕ) (s out : List ℕ) (i : ℕ) → PutAt o at s out i → length s ≡ 8 → 8 ≤ i → out ≡ written o at s
+put-end o at s out i h n l = put-done o at s out i h (omega (arith, n)) .bytes
+
+pub put-room : (o : List ℕ) (at : ℕ) (s : List ℕ) → at + 8 ≤ length o → length s ≡ 8 → PutAt o at s o 0
+put-room o at s h n = put-start o at s (omega (arith, n))
+
+pub put-next : (o : List ℕ) (at : ℕ) (s out : List ℕ) (i : ℕ) → PutAt o at s out i → length s ≡ 8 → i < 8 → PutAt o at s (set out (at + i) (getD s i 0)) (i + 1)
+put-next o at s out i h n l = put-more o at s out i h (omega (arith, n))
+
+pub put-inside : (o : List ℕ) (at : ℕ) (s out : List ℕ) (i : ℕ) → PutAt o at s out i → length s ≡ 8 → i < 8 → at + i < length out
+put-inside o at s out i h n l = omega (arith, n, h .room, h .long)
+
+pub put-same : (o : List ℕ) (at : ℕ) (s out : List ℕ) (i : ℕ) → PutAt o at s out i → length out ≡ length o
+put-same o at s out i h = h .long
+
+pub ruleset put-row-laws = (put-room, put-next, put-inside, put-same, put-end)
+
+module _ (o : List ℕ) (at : ℕ) (s : List ℕ) (room : at + length s ≤ length o) where
+  front : length (take at o) ≡ at
+  front = length-take-le at o (omega arith)
+
+  written-in : (k : ℕ) → k < length s → getD (written o at s) (at + k) 0 ≡ getD s k 0
+  unfolding written
+  written-in k l =
+      ap (λ (n : ℕ). getD (take at o ++ (s ++ drop (at + length s) o)) (n + k) 0) (sym front)
+      ∙ getD-append-add (take at o) (s ++ drop (at + length s) o) k 0 ∙ List·getD-append s (drop (at + length s) o) 0 k l
+
+  written-below : (k : ℕ) → k < at → getD (written o at s) k 0 ≡ getD o k 0
+  unfolding written
+  written-below k l = List·getD-append (take at o) (s ++ drop (at + length s) o) 0 k (omega (arith, front)) ∙ getD-take at o k 0 l
+
+  written-above : (k : ℕ) → getD (written o at s) (at + (length s + k)) 0 ≡ getD o (at + length s + k) 0
+  unfolding written
+  written-above k =
+      ap (λ (n : ℕ). getD (take at o ++ (s ++ drop (at + length s) o)) (n + (length s + k)) 0) (sym front)
+      ∙ getD-append-add (take at o) (s ++ drop (at + length s) o) (length s + k) 0 ∙ getD-append-add s (drop (at + length s) o) k 0 ∙ getD-drop (at + length s) o k 0
+
+  -- a word outside stays
+  written-other : (k : ℕ) → (at ≤ k → k < at + length s → ⊥) → getD (written o at s) k 0 ≡ getD o k 0
+  written-other k out = by (ltb k at)
+      (λ h. written-below k (ltb-true k at h))
+      (λ h. past (ltb-false k at h))
+    where
+      past : at ≤ k → getD (written o at s) k 0 ≡ getD o k 0
+      past l = by (ltb k (at + length s))
+          (λ h. absurd (out l (ltb-true k (at + length s) h)))
+          (λ h. let m : at + length s ≤ k = ltb-false k (at + length s) h in
+          let e : k ≡ at + (length s + (k - (at + length s))) = omega arith in
+          let f : k ≡ at + length s + (k - (at + length s)) = omega arith in
+          ap (λ (n : ℕ). getD (written o at s) n 0) e ∙ written-above (k - (at + length s)) ∙ ap (λ (n : ℕ). getD o n 0) (sym f))
 
 -- ---- the rows of a graph
 
-pub set-row-is : (g : List ℕ) (i : ℕ) (ws : List ℕ) → length g ≡ 1024 → length ws ≡ 4 → i < 256 → RowSet g i ws (anew g i ws)
-set-row-is g i ws n m l = record { here = put-here g i ws n m l; others = put-others g i ws }
+module _ (g : List ℕ) (i : ℕ) (ws : List ℕ) (n : length g ≡ 4608) (m : length ws ≡ 8) (l : i < 512) where
+  room : i * 9 + length ws ≤ length g
+  room = omega (arith, n, m)
 
--- a word of the row stands in the graph, after each store
-module _ (g : List ℕ) (i : ℕ) (n : length g ≡ 1024) (l : i < 256) where
-  pub room-1 : (a x : ℕ) → i * 4 + 1 < length (set g a x)
-  room-1 a x = omega (arith, length-set g a x)
+  -- row i holds what ws holds
+  here : (j : ℕ) → edge (written g (i * 9) ws) i j ≡ holds ws j
+  unfolding holds
+  here j = by (ltb j 512)
+      (λ h. let b : j < 512 = ltb-true j 512 h in
+      edge-is (written g (i * 9) ws) i j b ∙ ap (λ (w : ℕ). bit w (j % 64)) (written-in g (i * 9) ws room (j / 64) (omega (arith, m))))
+      (λ h. let b : 512 ≤ j = ltb-false j 512 h in edge-past (written g (i * 9) ws) i j b ∙ sym (holds-out ws j m b))
 
-  pub room-2 : (a x b y : ℕ) → i * 4 + 2 < length (set (set g a x) b y)
-  room-2 a x b y = omega (arith, length-set g a x, length-set (set g a x) b y)
+  -- no other row changes
+  others : (a b : ℕ) → (a ≡ i → ⊥) → edge (written g (i * 9) ws) a b ≡ edge g a b
+  others a b ne = by (ltb b 512)
+      (λ h. let k : b < 512 = ltb-true b 512 h in
+      edge-is (written g (i * 9) ws) a b k
+      ∙ ap (λ (w : ℕ). bit w (b % 64)) (written-other g (i * 9) ws room (a * 9 + b / 64) (λ x y. ne (omega (arith, m))))
+      ∙ sym (edge-is g a b k))
+      (λ h. let k : 512 ≤ b = ltb-false b 512 h in edge-past (written g (i * 9) ws) a b k ∙ sym (edge-past g a b k))
 
-  pub room-3 : (a x b y c z : ℕ) → i * 4 + 3 < length (set (set (set g a x) b y) c z)
-  room-3 a x b y c z = omega (arith, length-set g a x, length-set (set g a x) b y, length-set (set (set g a x) b y) c z)
+  same-ninth : (k : ℕ) → ninth (written g (i * 9) ws) k ≡ ninth g k
+  unfolding ninth
+  same-ninth k = written-other g (i * 9) ws room (k * 9 + 8) (λ x y. omega (arith, m))
 
-pub ruleset set-row-laws = (set-row-is, room-1, room-2, room-3)
+  pub set-row-is : (after : List ℕ) → after ≡ written g (i * 9) ws → RowSet g i ws after
+  set-row-is after e = subst (RowSet g i ws) (sym e) (record { here = here; others = others; ninths = same-ninth })
+
+pub set-row-room : (g : List ℕ) (i : ℕ) → length g ≡ 4608 → i < 512 → i * 9 + 8 ≤ length g
+set-row-room g i n l = omega (arith, n)
+
+pub ruleset set-row-laws = (set-row-is, set-row-room)
+
+pub row-of-in : (g : List ℕ) (i : ℕ) → Successors g i (rowOf g i)
+row-of-in g i = record { each = row-edges g i }
+
+-- ---- all words 0
+
+pub record ClearAt (rows : List ℕ) (k : ℕ) : Type 0 where
+  pub within : k ≤ 4608
+  pub long : length rows ≡ 4608
+  pub so-far : (i : ℕ) → i < k → getD rows i 0 ≡ 0
 
 below-next : (k i : ℕ) → i < k + 1 → {X : Type 0} → (i ≡ k → X) → ((i ≡ k → ⊥) → i < k → X) → X
 below-next k i h f g = by (eqb i k) (λ q. f (eqb-true i k q)) (λ q. let ne : i ≡ k → ⊥ = eqb-false i k q in
     ⊎-elim (λ (e : i ≡ k). f e) (λ l. g ne l) (eq-or-lt-of-le (omega arith)))
 
--- the rows below k are as wanted
-pub record SetAt (want : ℕ → ℕ → Bool) (g : List ℕ) (k : ℕ) : Type 0 where
-  pub within : k ≤ 256
-  pub long : length g ≡ 1024
-  pub so-far : (i : ℕ) → i < k → (j : ℕ) → edge g i j ≡ want i j
+pub clear-start : (rows : List ℕ) → length rows ≡ 4608 → ClearAt rows 0
+clear-start rows n = record { within = omega arith; long = n; so-far = λ i l. absurd (omega arith) }
 
-module _ (want : ℕ → ℕ → Bool) (g : List ℕ) where
-  set-start : length g ≡ 1024 → SetAt want g 0
-  set-start l = record { within = omega arith; long = l; so-far = λ i z. absurd (omega arith) }
-
-  set-next : (k : ℕ) → SetAt want g k → (row after : List ℕ) → k < 256 → length after ≡ length g → Holding row (want k) → RowSet g k row after → SetAt want after (k + 1)
-  set-next k h row after l m w r = record {
+module _ (rows : List ℕ) (k : ℕ) (h : ClearAt rows k) where
+  pub clear-next : k < 4608 → ClearAt (set rows k 0) (k + 1)
+  clear-next l = record {
     within = omega arith;
-    long = m ∙ h .long;
-    so-far = λ i z j. below-next k i z
-        (λ e. subst (λ (x : ℕ). edge after x j ≡ want x j) (sym e) (r .here j ∙ w .each j))
-        (λ ne b. r .others i j ne ∙ h .so-far i b j);
+    long = length-set rows k 0 ∙ h .long;
+    so-far = λ i z. below-next k i z
+        (λ e. ap (λ (x : ℕ). getD (set rows k 0) x 0) e ∙ getD-set-same rows k 0 0 (omega (arith, h .long)))
+        (λ ne b. getD-set-other rows k i 0 0 ne ∙ h .so-far i b);
   }
 
-  -- nothing is wanted from 256 on
-  set-end : (k : ℕ) → SetAt want g k → 256 ≤ k → ((i j : ℕ) → 256 ≤ i → want i j ≡ false) → (i j : ℕ) → edge g i j ≡ want i j
-  set-end k h l z i j = by (ltb i 256)
-      (λ q. h .so-far i (omega (arith, ltb-true i 256 q)) j)
-      (λ q. let o : 256 ≤ i = ltb-false i 256 q in edge-out g i j (h .long) o ∙ sym (z i j o))
+  pub clear-inside : k < 4608 → k < length rows
+  clear-inside l = omega (arith, h .long)
+
+  pub clear-end : 4608 ≤ k → rows ≡ replicate 4608 0
+  clear-end l = ext-getD 0 rows (replicate 4608 0) (h .long ∙ sym (length-replicate {A = ℕ} 4608 0))
+      (λ i b. h .so-far i (omega (arith, h .long)) ∙ sym (zero-at 4608 i))
+
+pub ruleset clear-laws = (clear-start, clear-next, clear-inside, clear-end)
+
+-- ---- the rows of the members in order
+
+-- the rows below k are as wanted, the others still 0
+pub record SetAt (want : ℕ → ℕ → Bool) (g : List ℕ) (k : ℕ) : Type 0 where
+  pub within : k ≤ 512
+  pub long : length g ≡ 4608
+  pub so-far : (i : ℕ) → i < k → (j : ℕ) → edge g i j ≡ want i j
+  pub later : (i : ℕ) → k ≤ i → (j : ℕ) → edge g i j ≡ false
+  pub ninths : (i : ℕ) → ninth g i ≡ 0
+
+-- nothing is wanted of a position that ws does not hold
+module _ (want : ℕ → ℕ → Bool) (ws : List ℕ) (m : length ws ≡ 8) (none : (i j : ℕ) → holds ws i ≡ false → want i j ≡ false) where
+  set-start : (g : List ℕ) → g ≡ replicate 4608 0 → SetAt want g 0
+  unfolding ninth
+  set-start g e = record {
+    within = omega arith;
+    long = ap length e ∙ length-replicate {A = ℕ} 4608 0;
+    so-far = λ i z. absurd (omega arith);
+    later = λ i z j. ap (λ (l : List ℕ). edge l i j) e ∙ edge-zeros 4608 i j;
+    ninths = λ i. ap (λ (l : List ℕ). getD l (i * 9 + 8) 0) e ∙ zero-at 4608 (i * 9 + 8);
+  }
+
+  module _ (g : List ℕ) (k : ℕ) (h : SetAt want g k) where
+    module _ (p : ℕ) (f : FirstFrom (holds ws) k 512 p) where
+      -- also those between k and the next member
+      passed : (i : ℕ) → i < p → (j : ℕ) → edge g i j ≡ want i j
+      passed i l j = by (ltb i k)
+          (λ q. h .so-far i (ltb-true i k q) j)
+          (λ q. let o : k ≤ i = ltb-false i k q in h .later i o j ∙ sym (none i j (f .none i o l)))
+
+      set-next : (pass : ℕ → Bool) (after : List ℕ) → p < 512 → length after ≡ length g → ((j : ℕ) → want p j ≡ pass j) → WithEdges g (edgesOf p pass) after → SetAt want after (p + 1)
+      unfolding edgesOf
+      set-next pass after l n w r = record {
+        within = omega arith;
+        long = n ∙ h .long;
+        so-far = λ i z j. below-next p i z
+            (λ e. subst (λ (x : ℕ). edge after x j ≡ want x j) (sym e) (r .each p j ∙ rw (h .later p (f .from) j, eq-eqb p p refl) (sym (w j))))
+            (λ ne b. other i j ne ∙ passed i b j);
+        later = λ i z j. other i j (λ e. omega arith) ∙ h .later i (omega (arith, f .from)) j;
+        ninths = λ i. r .ninths i ∙ h .ninths i;
+      }
+        where
+          other : (i j : ℕ) → (i ≡ p → ⊥) → edge after i j ≡ edge g i j
+          other i j ne = r .each i j ∙ rw (ne-eqb i p ne) (or-false (edge g i j))
+
+      set-none : 512 ≤ p → (i j : ℕ) → edge g i j ≡ want i j
+      set-none l i j = by (ltb i 512)
+          (λ q. passed i (omega (arith, ltb-true i 512 q)) j)
+          (λ q. let o : 512 ≤ i = ltb-false i 512 q in edge-out g i j (h .long) o ∙ sym (none i j (holds-out ws i m o)))
+
+    set-end : 512 ≤ k → (i j : ℕ) → edge g i j ≡ want i j
+    set-end l = set-none k (record { from = omega arith; within = h .within; none = λ i a b. absurd (omega arith); found = λ b. absurd (omega arith) }) l
 
 -- what row i is to hold
 abbrev pub transitiveRow : List ℕ → List ℕ → ℕ → List ℕ → ℕ → ℕ → Bool
@@ -74,44 +206,86 @@ transitiveRow s t n ws i = transitiveAt (tableNames s t n) ws (holds ws i) (desc
 abbrev pub directRow : List ℕ → List ℕ → ℕ → List ℕ → ℕ → ℕ → Bool
 directRow s t n ws i = directFrom (tableNames s t n) ws (holds ws i) (descriptorOf (blockAt s t i))
 
-pub record DirectAt (s t : List ℕ) (n : ℕ) (ws g reads : List ℕ) (k : ℕ) : Type 0 where
+transitive-none : (s t : List ℕ) (n : ℕ) (ws : List ℕ) (i j : ℕ) → holds ws i ≡ false → transitiveRow s t n ws i j ≡ false
+unfolding transitiveAt
+transitive-none s t n ws i j e = rw e
+
+direct-none : (s t : List ℕ) (n : ℕ) (ws : List ℕ) (i j : ℕ) → holds ws i ≡ false → directRow s t n ws i j ≡ false
+unfolding directFrom
+direct-none s t n ws i j e = rw e
+
+pub record DirectAt (s t : List ℕ) (n : ℕ) (ws g rows : List ℕ) (k : ℕ) : Type 0 where
+  pub members : length ws ≡ 8
   pub graph : SetAt (transitiveRow s t n ws) g k
-  pub rows : SetAt (directRow s t n ws) reads k
+  pub direct : SetAt (directRow s t n ws) rows k
 
-module _ (s t : List ℕ) (n : ℕ) (ws g reads : List ℕ) where
-  pub direct-start : length g ≡ 1024 → length reads ≡ 1024 → DirectAt s t n ws g reads 0
-  direct-start l m = record { graph = set-start (transitiveRow s t n ws) g l; rows = set-start (directRow s t n ws) reads m }
+pub zeros-long : (g : List ℕ) → g ≡ replicate 4608 0 → length g ≡ 4608
+zeros-long g e = ap length e ∙ length-replicate {A = ℕ} 4608 0
 
-  module _ (k : ℕ) (h : DirectAt s t n ws g reads k) where
-    pub direct-next : (transitive all g₂ reads₂ : List ℕ) → k < 256 → length g₂ ≡ length g → length reads₂ ≡ length reads
-        → Holding transitive (transitiveRow s t n ws k) → Holding all (directRow s t n ws k)
-        → RowSet g k transitive g₂ → RowSet reads k all reads₂ → DirectAt s t n ws g₂ reads₂ (k + 1)
-    direct-next transitive all g₂ reads₂ l m o w v x y = record {
-      graph = set-next (transitiveRow s t n ws) g k (h .graph) transitive g₂ l m w x;
-      rows = set-next (directRow s t n ws) reads k (h .rows) all reads₂ l o v y;
-    }
+pub same-long : (before g : List ℕ) → before ≡ replicate 4608 0 → length g ≡ 4608 → length g ≡ length before
+same-long before g e n = n ∙ sym (zeros-long before e)
 
-    pub graph-end : length ws ≡ 4 → 256 ≤ k → TransitiveGraph s t n ws g
-    unfolding transitiveAt
-    graph-end m l = record { each = set-end (transitiveRow s t n ws) g k (h .graph) l (λ i j o. rw (holds-out ws i m o)) }
+module _ (s t : List ℕ) (n : ℕ) (ws g rows : List ℕ) where
+  pub direct-start : length ws ≡ 8 → g ≡ replicate 4608 0 → rows ≡ replicate 4608 0 → DirectAt s t n ws g rows 0
+  direct-start m e f = record {
+    members = m;
+    graph = set-start (transitiveRow s t n ws) ws m (transitive-none s t n ws) g e;
+    direct = set-start (directRow s t n ws) ws m (direct-none s t n ws) rows f;
+  }
 
-    pub direct-end : length ws ≡ 4 → 256 ≤ k → DirectRows s t n ws reads
-    unfolding directFrom
-    direct-end m l = record { each = set-end (directRow s t n ws) reads k (h .rows) l (λ i j o. rw (holds-out ws i m o)) }
+  module _ (k : ℕ) (h : DirectAt s t n ws g rows k) where
+    pub direct-within : k ≤ 512
+    direct-within = h .graph .within
 
-pub ruleset set-direct-laws = (direct-start, direct-next, graph-end, direct-end)
+    pub direct-long : length g ≡ 4608
+    direct-long = h .graph .long
+
+    pub direct-rows-long : length rows ≡ 4608
+    direct-rows-long = h .direct .long
+
+    module _ (p : ℕ) (f : FirstFrom (holds ws) k 512 p) where
+      pub direct-next : (g₂ rows₂ : List ℕ) → p < 512 → length g₂ ≡ length g → length rows₂ ≡ length rows
+          → WithEdges g (edgesOf p (requiredAt (tableNames s t n) ws true (descriptorOf (blockAt s t p) .requires))) g₂
+          → WithEdges rows (edgesOf p (directAt (tableNames s t n) ws (descriptorOf (blockAt s t p)))) rows₂ → DirectAt s t n ws g₂ rows₂ (p + 1)
+      unfolding transitiveAt directFrom
+      direct-next g₂ rows₂ l m o x y = record {
+        members = h .members;
+        graph = set-next (transitiveRow s t n ws) ws (h .members) (transitive-none s t n ws) g k (h .graph) p f
+            (requiredAt (tableNames s t n) ws true (descriptorOf (blockAt s t p) .requires)) g₂ l m (λ j. rw (f .found l)) x;
+        direct = set-next (directRow s t n ws) ws (h .members) (direct-none s t n ws) rows k (h .direct) p f
+            (directAt (tableNames s t n) ws (descriptorOf (blockAt s t p))) rows₂ l o (λ j. rw (f .found l)) y;
+      }
+
+      pub graph-none : 512 ≤ p → TransitiveGraph s t n ws g
+      graph-none l = record { each = set-none (transitiveRow s t n ws) ws (h .members) (transitive-none s t n ws) g k (h .graph) p f l }
+
+      pub direct-done : 512 ≤ p → DirectRows s t n ws rows
+      direct-done l = record { each = set-none (directRow s t n ws) ws (h .members) (direct-none s t n ws) rows k (h .direct) p f l; ninths = h .direct .ninths }
+
+      pub direct-less : p < 512 → 512 - (p + 1) < 512 - k
+      direct-less l = omega (arith, f .from)
+
+    pub graph-end : 512 ≤ k → TransitiveGraph s t n ws g
+    graph-end l = record { each = set-end (transitiveRow s t n ws) ws (h .members) (transitive-none s t n ws) g k (h .graph) l }
+
+    pub direct-end : 512 ≤ k → DirectRows s t n ws rows
+    direct-end l = record { each = set-end (directRow s t n ws) ws (h .members) (direct-none s t n ws) rows k (h .direct) l; ninths = h .direct .ninths }
+
+pub ruleset set-direct-laws = (zeros-long, direct-start, direct-within, direct-long, direct-rows-long, direct-next, graph-none, direct-done, direct-less, graph-end, direct-end)
 
 -- ---- the rows of what is read
 
 -- the rows below k are those, and the others are still what is read directly
-pub record RowsAt (s t : List ℕ) (n : ℕ) (ws g reads : List ℕ) (k : ℕ) : Type 0 where
-  pub within : k ≤ 256
-  pub long : length reads ≡ 1024
-  pub so-far : (i : ℕ) → i < k → ModuleReads (tableNames s t n) ws g (descriptorOf (blockAt s t i)) i (λ j. edge reads i j)
-  pub still : (i j : ℕ) → k ≤ i → edge reads i j ≡ directRow s t n ws i j
+pub record RowsAt (s t : List ℕ) (n : ℕ) (ws g rows : List ℕ) (k : ℕ) : Type 0 where
+  pub members : length ws ≡ 8
+  pub within : k ≤ 512
+  pub long : length rows ≡ 4608
+  pub so-far : (i : ℕ) → i < k → ModuleReads (tableNames s t n) ws g (descriptorOf (blockAt s t i)) i (λ j. edge rows i j)
+  pub still : (i j : ℕ) → k ≤ i → edge rows i j ≡ directRow s t n ws i j
+  pub ninths : (i : ℕ) → ninth rows i ≡ 0
 
-pub rows-start : (s t : List ℕ) (n : ℕ) (ws g reads : List ℕ) → length reads ≡ 1024 → DirectRows s t n ws reads → RowsAt s t n ws g reads 0
-rows-start s t n ws g reads l d = record { within = omega arith; long = l; so-far = λ i z. absurd (omega arith); still = λ i j _. d .each i j }
+pub rows-start : (s t : List ℕ) (n : ℕ) (ws g rows : List ℕ) → length ws ≡ 8 → length rows ≡ 4608 → DirectRows s t n ws rows → RowsAt s t n ws g rows 0
+rows-start s t n ws g rows m l d = record { members = m; within = omega arith; long = l; so-far = λ i z. absurd (omega arith); still = λ i j _. d .each i j; ninths = d .ninths }
 
 same-reads : (l : List Name) (ws g : List ℕ) (m : Descriptor) (p : ℕ) (a b : ℕ → Bool) → ((j : ℕ) → b j ≡ a j) → ModuleReads l ws g m p a → ModuleReads l ws g m p b
 same-reads l ws g m p a b e h = record {
@@ -125,30 +299,55 @@ same-reads l ws g m p a b e h = record {
   other = λ f j. e j ∙ h .other f j;
 }
 
-module _ (s t : List ℕ) (n : ℕ) (ws g reads : List ℕ) (k : ℕ) (h : RowsAt s t n ws g reads k) where
-  pub rows-direct : (row : List ℕ) → Successors reads k row → Holding row (directRow s t n ws k)
-  rows-direct row r = record { each = λ j. r .each j ∙ h .still k j (omega arith) }
+module _ (s t : List ℕ) (n : ℕ) (ws g rows : List ℕ) (k : ℕ) (h : RowsAt s t n ws g rows k) where
+  pub rows-within : k ≤ 512
+  rows-within = h .within
 
-  pub rows-next : (row after : List ℕ) → k < 256 → length after ≡ length reads
-      → ModuleReads (tableNames s t n) ws g (descriptorOf (blockAt s t k)) k (holds row) → RowSet reads k row after → RowsAt s t n ws g after (k + 1)
-  rows-next row after l m w r = record {
-    within = omega arith;
-    long = m ∙ h .long;
-    so-far = λ i z. below-next k i z
-        (λ e. subst (λ (x : ℕ). ModuleReads (tableNames s t n) ws g (descriptorOf (blockAt s t x)) x (λ j. edge after x j)) (sym e)
-        (same-reads (tableNames s t n) ws g (descriptorOf (blockAt s t k)) k (holds row) (λ j. edge after k j) (λ j. r .here j) w))
-        (λ ne b. same-reads (tableNames s t n) ws g (descriptorOf (blockAt s t i)) i (λ j. edge reads i j) (λ j. edge after i j) (λ j. r .others i j ne) (h .so-far i b));
-    still = λ i j z. r .others i j (λ e. omega arith) ∙ h .still i j (omega arith);
-  }
+  pub rows-long : length rows ≡ 4608
+  rows-long = h .long
 
-  pub rows-end : length ws ≡ 4 → 256 ≤ k → ReadRows s t n ws g reads
-  rows-end m l = record {
-    each = λ i. by (ltb i 256)
-        (λ q. h .so-far i (omega (arith, ltb-true i 256 q)))
-        (λ q. let o : 256 ≤ i = ltb-false i 256 q in record {
-          member = λ y. true≠false y (holds-out ws i m o);
-          other = λ f j. edge-out reads i j (h .long) o;
-        });
-  }
+  module _ (p : ℕ) (f : FirstFrom (holds ws) k 512 p) where
+    pub rows-less : p < 512 → 512 - (p + 1) < 512 - k
+    rows-less l = omega (arith, f .from)
 
-pub ruleset rows-laws = (rows-start, rows-direct, rows-next, rows-end)
+    pub rows-direct : (row : List ℕ) → Successors rows p row → Holding row (directRow s t n ws p)
+    rows-direct row r = record { each = λ j. r .each j ∙ h .still p j (f .from) }
+
+    -- also those between k and the next member: they read nothing
+    rows-passed : (i : ℕ) → i < p → ModuleReads (tableNames s t n) ws g (descriptorOf (blockAt s t i)) i (λ j. edge rows i j)
+    rows-passed i l = by (ltb i k)
+        (λ q. h .so-far i (ltb-true i k q))
+        (λ q. let o : k ≤ i = ltb-false i k q in let e : holds ws i ≡ false = f .none i o l in record {
+          member = λ y. true≠false y e;
+          other = λ _ j. h .still i j o ∙ direct-none s t n ws i j e;
+        })
+
+    pub rows-next : (row after : List ℕ) → p < 512 → length after ≡ length rows
+        → ModuleReads (tableNames s t n) ws g (descriptorOf (blockAt s t p)) p (holds row) → RowSet rows p row after → RowsAt s t n ws g after (p + 1)
+    rows-next row after l m w r = record {
+      members = h .members;
+      within = omega arith;
+      long = m ∙ h .long;
+      so-far = λ i z. below-next p i z
+          (λ e. subst (λ (x : ℕ). ModuleReads (tableNames s t n) ws g (descriptorOf (blockAt s t x)) x (λ j. edge after x j)) (sym e)
+          (same-reads (tableNames s t n) ws g (descriptorOf (blockAt s t p)) p (holds row) (λ j. edge after p j) (λ j. r .here j) w))
+          (λ ne b. same-reads (tableNames s t n) ws g (descriptorOf (blockAt s t i)) i (λ j. edge rows i j) (λ j. edge after i j) (λ j. r .others i j ne) (rows-passed i b));
+      still = λ i j z. r .others i j (λ e. omega arith) ∙ h .still i j (omega (arith, f .from));
+      ninths = λ i. r .ninths i ∙ h .ninths i;
+    }
+
+    pub rows-none : 512 ≤ p → ReadRows s t n ws g rows
+    rows-none l = record {
+      each = λ i. by (ltb i 512)
+          (λ q. rows-passed i (omega (arith, ltb-true i 512 q)))
+          (λ q. let o : 512 ≤ i = ltb-false i 512 q in record {
+            member = λ y. true≠false y (holds-out ws i (h .members) o);
+            other = λ _ j. edge-out rows i j (h .long) o;
+          });
+      ninths = h .ninths;
+    }
+
+  pub rows-end : 512 ≤ k → ReadRows s t n ws g rows
+  rows-end l = rows-none k (record { from = omega arith; within = h .within; none = λ i a b. absurd (omega arith); found = λ b. absurd (omega arith) }) l
+
+pub ruleset rows-laws = (rows-start, rows-within, rows-long, rows-less, rows-direct, rows-next, rows-none, rows-end)

@@ -1,5 +1,5 @@
 -- What each return of `resolve` shows.
-use Prim.Native.Nat.{ℕ, _≤_}
+use Prim.Native.Nat.{ℕ, _≤_, _<_}
 use mathlib.Core.Path.{_≡_, refl, sym, _∙_, ap, subst}
 use mathlib.Core.Bool.{Bool, true, false}
 use mathlib.Core.List.{List}
@@ -10,8 +10,9 @@ use Rattle.records.specs.Request.{requestOf, checkInputs}
 use Rattle.records.specs.Set.{checkSet, modules, refused as refusedSet}
 use Rattle.records.specs.Sorted.{IndexedSet}
 use Rattle.records.specs.declared.error.ModuleError.{ModuleError}
-use Rattle.records.specs.declared.error.ModuleError.the-variants.{TooLarge}
+use Rattle.records.specs.declared.error.ModuleError.the-variants.{TooLarge, OutputTooShort}
 use Rattle.records.specs.declared.set.Checked.{Checked}
+use Rattle.records.specs.declared.set.SetAnswer.{SetAnswer}
 use Rattle.records.specs.declared.set.SetAnswer.the-variants as Set
 use Rattle.records.proofs.Logic.{clash}
 use Rattle.records.proofs.sorted.Index.{indexed-none}
@@ -24,10 +25,12 @@ use Rattle.resolution.specs.Resolution as Resolution
 use Rattle.resolution.specs.Resolve.{refused, errorOf, told, answered, resolve}
 use Rattle.resolution.specs.Resolver.{Line, lineAt, startOn, resolveAt}
 use Rattle.resolution.specs.Configure.{PermittedRow, Configured}
-use Rattle.resolution.specs.declared.resolve.Resolution as Declared
+use Rattle.resolution.specs.declared.resolve.Outcome.{Outcome}
+use Rattle.resolution.specs.declared.resolve.Outcome.the-variants as Outcome
 use Rattle.resolution.specs.declared.resolver.Halt.{Halt}
 use Rattle.resolution.specs.declared.resolver.Halt.the-variants as Halt
 use Rattle.resolution.specs.declared.resolver.Queue.{Queue}
+use Rattle.resolution.proofs.ConfigurationWords.{with-refused, with-few, with-enough}
 use Rattle.resolution.proofs.ResolverRun.{refusedWith, positions, answerOn, answerAt}
 use Rattle.resolution.proofs.ResolverWhole.{answerOf, Accepts, resolver-is, resolver-accepts}
 use Rattle.resolution.proofs.Sets.{starts-room, set-lookup}
@@ -36,7 +39,7 @@ use Rattle.records.proofs.request.Taken.{inputs-taken}
 -- ---- a set and a request that the check takes
 
 module _ (s q : List ℕ) (n : ℕ) (t : List ℕ) (e : checkSet s ≡ record { answer = Set.Modules n; starts = t }) where
-  pub checked-few : n ≤ 256
+  pub checked-few : n ≤ 512
   checked-few = good-set s n t e .few
 
   pub checked-room : n ≤ length t
@@ -45,7 +48,7 @@ module _ (s q : List ℕ) (n : ℕ) (t : List ℕ) (e : checkSet s ≡ record { 
   pub checked-short : length s ≤ 65535
   checked-short = good-set s n t e .short
 
-  module _ (ws : List ℕ) (p : PermittedRow s q n ws) (order : List ℕ) (queue : Queue) (l : lineAt order queue ≡ resolveAt (startOn s q n t ws)) where
+  module _ (ws : List ℕ) (p : PermittedRow s q n ws) (order : List ℕ) (queue : Queue) (l : lineAt order queue ≡ resolveAt (startOn s q n t ws)) (lent : List ℕ) where
     abbrev R : Result State Refusal
     R = Resolution.resolve (modules s) (requestOf q)
 
@@ -53,45 +56,50 @@ module _ (s q : List ℕ) (n : ℕ) (t : List ℕ) (e : checkSet s ≡ record { 
     unfolding answerAt lineAt
     answer-is = ap answerAt l ∙ resolver-is s q n t e ws (p .each)
 
-    refuses : (x : ModuleError) → answerOn (queue .halt) (take (queue .tail) order) ≡ refusedWith x → (z : Result State Refusal) → R ≡ z → refused x ≡ told s q z
+    refuses : (x : ModuleError) → answerOn (queue .halt) (take (queue .tail) order) ≡ refusedWith x → (z : Result State Refusal) → R ≡ z → told s q lent z ≡ refused x lent
     unfolding answerOf told
     refuses x k (failed a) h =
         let w : refusedWith x ≡ refusedWith (errorOf s q a) = sym k ∙ answer-is ∙ ap (answerOf s q) h in
         let y : x ≡ errorOf s q a = cc in
-        ap refused y
+        ap (λ (v : ModuleError). refused v lent) (sym y)
     refuses x k (done st) h =
         let w : refusedWith x ≡ answerOf s q (done st) = sym k ∙ answer-is ∙ ap (answerOf s q) h in
         clash (cc)
 
-    pub checked-stop : (x : ModuleError) (r : Declared.Resolution) → queue .halt ≡ Halt.Stop x → r ≡ refused x → r ≡ told s q (Resolution.resolve (modules s) (requestOf q))
-    unfolding answerOn
-    checked-stop x r k er = er ∙ refuses x (ap (λ (h : Halt). answerOn h (take (queue .tail) order)) k) R refl
+    pub checked-stop : (x : ModuleError) → queue .halt ≡ Halt.Stop x → told s q lent (Resolution.resolve (modules s) (requestOf q)) ≡ record { outcome = Outcome.Refused x; words = lent }
+    unfolding answerOn refused
+    checked-stop x k = refuses x (ap (λ (h : Halt). answerOn h (take (queue .tail) order)) k) R refl
 
-    pub checked-refused : (x : ModuleError) (r : Declared.Resolution) → queue .halt ≡ Halt.Refused x → r ≡ refused x → r ≡ told s q (Resolution.resolve (modules s) (requestOf q))
-    unfolding answerOn
-    checked-refused x r k er = er ∙ refuses x (ap (λ (h : Halt). answerOn h (take (queue .tail) order)) k) R refl
+    pub checked-refused : (x : ModuleError) → queue .halt ≡ Halt.Refused x → told s q lent (Resolution.resolve (modules s) (requestOf q)) ≡ record { outcome = Outcome.Refused x; words = lent }
+    unfolding answerOn refused
+    checked-refused x k = refuses x (ap (λ (h : Halt). answerOn h (take (queue .tail) order)) k) R refl
 
-    accepts : (r : Declared.Resolution) → queue .halt ≡ Halt.Open → Configured s q n (take (queue .tail) order) r → (z : Result State Refusal) → R ≡ z → r ≡ told s q z
+    accepts : (after : List ℕ) → queue .halt ≡ Halt.Open → Configured s q n (take (queue .tail) order) lent after → (z : Result State Refusal) → R ≡ z
+        → told s q lent z ≡ record { outcome = Outcome.Accepted; words = after }
     unfolding answerOf told answerOn lineAt
-    accepts r k c (failed a) h =
+    accepts after k c (failed a) h =
         let w : positions (take (queue .tail) order) ≡ refusedWith (errorOf s q a) =
         sym (ap (λ (x : Halt). answerOn x (take (queue .tail) order)) k) ∙ answer-is ∙ ap (answerOf s q) h in
         clash (cc)
-    accepts r k c (done st) h =
+    accepts after k c (done st) h =
         let a : Accepts s n (lineAt order queue) (st .resolved) = subst (λ (x : Line). Accepts s n x (st .resolved)) (sym l) (resolver-accepts s q n t e ws (p .each) st h) in
-        c .is (st .resolved) (a .modules-are) (a .visible)
+        ap (λ (x : List ℕ). record { outcome = Outcome.Accepted; words = x }) (sym (c .is (st .resolved) (a .modules-are) (a .visible)))
 
-    pub checked-open : (r : Declared.Resolution) → queue .halt ≡ Halt.Open → Configured s q n (take (queue .tail) order) r → r ≡ told s q (Resolution.resolve (modules s) (requestOf q))
-    checked-open r k c = accepts r k c R refl
+    pub checked-open : (after : List ℕ) → queue .halt ≡ Halt.Open → Configured s q n (take (queue .tail) order) lent after
+        → told s q lent (Resolution.resolve (modules s) (requestOf q)) ≡ record { outcome = Outcome.Accepted; words = after }
+    checked-open after k c = accepts after k c R refl
 
 pub ruleset checked-laws = (checked-few, checked-room, checked-short, checked-open, checked-stop, checked-refused)
 
 -- ---- any set and request
 
 module _ (s q : List ℕ) (c : Checked) (ec : c ≡ checkInputs s q) where
-  pub resolve-refused : (x : ModuleError) (r : Declared.Resolution) → c .answer ≡ Set.Refused x → r ≡ refused x → r ≡ resolve s q
-  unfolding resolve answered
-  resolve-refused x r k er = er ∙ sym (ap (answered s q) (ap (λ (z : Checked). z .answer) (sym ec) ∙ k))
+  taken : (a : SetAnswer) → c .answer ≡ a → checkInputs s q .answer ≡ a
+  taken a k = ap (λ (z : Checked). z .answer) (sym ec) ∙ k
+
+  pub resolve-refused : (ws : List ℕ) (x : ModuleError) → c .answer ≡ Set.Refused x → resolve s q ws ≡ record { outcome = Outcome.Refused x; words = ws }
+  unfolding resolve answered refused
+  resolve-refused ws x k = ap (answered s q ws) (with-refused ws (checkInputs s q .answer) x (taken (Set.Refused x) k))
 
   module _ (n : ℕ) (k : c .answer ≡ Set.Modules n) where
     pub resolve-set : checkSet s ≡ record { answer = Set.Modules n; starts = c .starts }
@@ -111,8 +119,13 @@ module _ (s q : List ℕ) (c : Checked) (ec : c ≡ checkInputs s q) where
             let z : Set.Refused (TooLarge 0) ≡ Set.Modules n = ap (λ (x : Checked). x .answer) (long ∙ sym ec) ∙ k in
             clash (cc)
 
-    pub resolve-taken : (r : Declared.Resolution) → r ≡ told s q (Resolution.resolve (modules s) (requestOf q)) → r ≡ resolve s q
-    unfolding resolve answered
-    resolve-taken r er = er ∙ sym (ap (answered s q) (ap (λ (z : Checked). z .answer) (sym ec) ∙ k))
+    pub resolve-few : (ws : List ℕ) → length ws < 4616 → resolve s q ws ≡ record { outcome = Outcome.Refused (OutputTooShort 4616); words = ws }
+    unfolding resolve answered refused
+    resolve-few ws l = ap (answered s q ws) (with-few ws (checkInputs s q .answer) n (taken (Set.Modules n) k) l)
 
-pub ruleset resolve-laws = (indexed-none, resolve-refused, resolve-set, resolve-lookup, resolve-short, resolve-taken)
+    pub resolve-taken : (ws : List ℕ) (o : Outcome) (after : List ℕ) → 4616 ≤ length ws → told s q ws (Resolution.resolve (modules s) (requestOf q)) ≡ record { outcome = o; words = after }
+        → resolve s q ws ≡ record { outcome = o; words = after }
+    unfolding resolve answered
+    resolve-taken ws o after l e = ap (answered s q ws) (with-enough ws (checkInputs s q .answer) n (taken (Set.Modules n) k) l) ∙ e
+
+pub ruleset resolve-laws = (indexed-none, resolve-refused, resolve-set, resolve-lookup, resolve-short, resolve-few, resolve-taken)

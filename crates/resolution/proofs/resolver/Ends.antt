@@ -48,11 +48,11 @@ one-is n true e = rw e
 one-is n false e = rw e
 
 module _ (count : ℕ) (order : List ℕ) (q : Queue) (h : Ready count order q) (i : ℕ) (l : i < count) where
-  pub queued-index : 256 + i < length order
+  pub queued-index : 512 + i < length order
   queued-index = omega (arith, h .long, h .few, l)
 
-  pub queued-is : eqb (getD order (256 + i) 0) 1 ≡ isOneOf i (take (q .tail) order)
-  queued-is = one-is (getD order (256 + i) 0) (isOneOf i (take (q .tail) order)) (h .marked i (omega (arith, h .few, l)))
+  pub queued-is : eqb (getD order (512 + i) 0) 1 ≡ isOneOf i (take (q .tail) order)
+  queued-is = one-is (getD order (512 + i) 0) (isOneOf i (take (q .tail) order)) (h .marked i (omega (arith, h .few, l)))
 
 pub ruleset queued-laws = (queued-index, queued-is)
 
@@ -62,38 +62,38 @@ module _ (count : ℕ) (order : List ℕ) (q : Queue) (h : Ready count order q) 
   push-there t = record { line = sym (rw (← er, t)); ready = h }
 
   module _ (t : r ≡ false) where
-    pub push-room : q .tail < 256
+    pub push-room : q .tail < 512
     push-room = omega (arith, h .few, h .room, fewer count i (take (q .tail) order) l (sym er ∙ t))
 
     pub push-index : q .tail < length order
     push-index = omega (arith, h .long, push-room)
 
-    pub push-mark : 256 + i < length (set order (q .tail) i)
+    pub push-mark : 512 + i < length (set order (q .tail) i)
     push-mark = rw (length-set order (q .tail) i) (queued-index count order q h i l)
 
-    ends : take (suc (q .tail)) (set (set order (q .tail) i) (256 + i) 1) ≡ take (q .tail) order ++ (i ∷ [])
-    ends = take-set-le (suc (q .tail)) (set order (q .tail) i) (256 + i) 1 (omega (arith, push-room)) ∙ take-suc-set order (q .tail) i push-index
+    ends : take (suc (q .tail)) (set (set order (q .tail) i) (512 + i) 1) ≡ take (q .tail) order ++ (i ∷ [])
+    ends = take-set-le (suc (q .tail)) (set order (q .tail) i) (512 + i) 1 (omega (arith, push-room)) ∙ take-suc-set order (q .tail) i push-index
 
-    marks : (j : ℕ) → j < 256 → getD (set (set order (q .tail) i) (256 + i) 1) (256 + j) 0 ≡ one (isOneOf j (take (q .tail) order ++ (i ∷ [])))
+    marks : (j : ℕ) → j < 512 → getD (set (set order (q .tail) i) (512 + i) 1) (512 + j) 0 ≡ one (isOneOf j (take (q .tail) order ++ (i ∷ [])))
     unfolding one
     marks j b = rw (one-of-end j i (take (q .tail) order)) (go (eqb j i) refl)
       where
-        go : (c : Bool) → eqb j i ≡ c → getD (set (set order (q .tail) i) (256 + i) 1) (256 + j) 0 ≡ one (isOneOf j (take (q .tail) order) || c)
+        go : (c : Bool) → eqb j i ≡ c → getD (set (set order (q .tail) i) (512 + i) 1) (512 + j) 0 ≡ one (isOneOf j (take (q .tail) order) || c)
         go true k =
             rw (eqb-true j i k)
-            (getD-set-same (set order (q .tail) i) (256 + i) 1 0 push-mark ∙ sym (ap one (or-right (isOneOf i (take (q .tail) order)) true refl)))
+            (getD-set-same (set order (q .tail) i) (512 + i) 1 0 push-mark ∙ sym (ap one (or-right (isOneOf i (take (q .tail) order)) true refl)))
         go false k =
             let n : j ≡ i → ⊥ = eqb-false j i k in
-            getD-set-other (set order (q .tail) i) (256 + i) (256 + j) 1 0 (omega (arith, n))
-            ∙ (getD-set-other order (q .tail) (256 + j) i 0 (omega (arith, push-room)) ∙ (h .marked j b ∙ sym (ap one (or-false (isOneOf j (take (q .tail) order))))))
+            getD-set-other (set order (q .tail) i) (512 + i) (512 + j) 1 0 (omega (arith, n))
+            ∙ (getD-set-other order (q .tail) (512 + j) i 0 (omega (arith, push-room)) ∙ (h .marked j b ∙ sym (ap one (or-false (isOneOf j (take (q .tail) order))))))
 
-    pub push-moved : (o : List ℕ) → o ≡ set (set order (q .tail) i) (256 + i) 1
+    pub push-moved : (o : List ℕ) → o ≡ set (set order (q .tail) i) (512 + i) 1
         → Moved count o (record { head = q .head; tail = q .tail + 1; halt = q .halt }) (queuedAt i (lineAt order q))
     unfolding queuedAt lineAt
     push-moved o e = record {
       line = rw (add-one (q .tail), e, ends, ← er, t);
       ready = record {
-        long = rw (e, length-set (set order (q .tail) i) (256 + i) 1, length-set order (q .tail) i) (h .long);
+        long = rw (e, length-set (set order (q .tail) i) (512 + i) 1, length-set order (q .tail) i) (h .long);
         few = h .few;
         waits = omega (arith, h .waits);
         room = rw (add-one (q .tail), e, ends) (omega (arith, h .room, fewer count i (take (q .tail) order) l (sym er ∙ t)));

@@ -136,7 +136,7 @@ module _ (set request starts old : List ℕ) (phase : Phase) (index names needed
                 let z : goesOn (lineAt order₂ r) ≡ false = ended (lineAt order₂ r) (unfold lineAt in k) in
                 run-ended w (phase .count - q .head) (lineAt order₂ r) z ∙ sym (run-ended w (suc (phase .count) - r .head) (lineAt order₂ r) z)
 
-        pub run-less : (257 - r .head) + one (isOpen (r .halt)) < (257 - q .head) + one (isOpen (q .halt))
+        pub run-less : (513 - r .head) + one (isOpen (r .halt)) < (513 - q .head) + one (isOpen (q .halt))
         unfolding one
         run-less = rw was (go (isOpen (r .halt)) refl)
           where
@@ -146,7 +146,7 @@ module _ (set request starts old : List ℕ) (phase : Phase) (index names needed
             on-or-same : q .head ≤ r .head
             on-or-same = unfold lineAt in omega (arith, ap (λ (l : Line). l .head) (m .line), not-back w (lineAt order q))
 
-            go : (b : Bool) → isOpen (r .halt) ≡ b → (257 - r .head) + one b < (257 - q .head) + 1
+            go : (b : Bool) → isOpen (r .halt) ≡ b → (513 - r .head) + one b < (513 - q .head) + 1
             go true k = omega (arith, next-head k, run-waits, tail-few (phase .count) order q ready, ready .few)
             go false k = omega (arith, on-or-same)
 

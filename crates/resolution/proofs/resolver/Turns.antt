@@ -129,7 +129,7 @@ module _ (count : ℕ) (set starts order : List ℕ) (q : Queue) (h : Ready coun
   pub head-index : q .head < length order
   head-index = omega (arith, l, tail-long count order q h)
 
-  pub head-fits : q .head < 256
+  pub head-fits : q .head < 512
   head-fits = omega (arith, l, tail-few count order q h, h .few)
 
   pub source-short : (s : List ℕ) (n : ℕ) → length set ≤ 65535 → s ≡ take n set → length s ≤ 65535

@@ -114,8 +114,8 @@ pub ruleset first-laws = (first-running, first-ran)
 -- ---- the whole
 
 module _ (set request starts : List ℕ) (phase : Phase) (index names : List ℕ) (h : Tables set request starts starts phase index names names) where
-  pub order-fresh : Fresh (phase .count) (replicate 512 0)
-  order-fresh = record { long = length-replicate {A = ℕ} 512 0; few = h .lookup .few; unmarked = λ i l. getD-replicate 512 (256 + i) 0 0 (omega (arith, l)) }
+  pub order-fresh : Fresh (phase .count) (replicate 1024 0)
+  order-fresh = record { long = length-replicate {A = ℕ} 1024 0; few = h .lookup .few; unmarked = λ i l. getD-replicate 1024 (512 + i) 0 0 (omega (arith, l)) }
 
   pub order-later : length request ≤ 65535 → (old : List ℕ) (before : ℕ) → before ≤ length old
       → Later set request starts old (record { count = phase .count; permitted = phase .permitted; in_round = true; before = before; statics = phase .statics; limited = phase .limited; known = false }) index

@@ -203,7 +203,7 @@ module _ (set request starts old : List ℕ) (phase : Phase) where
   -- so many rounds are left at most
   pub record RoundsAt (index names needed order₀ packages₀ table₀ : List ℕ) (start : Line) (order packages table : List ℕ) (bound : ℕ) (q : Queue) : Type 0 where
     pub tables : Tables set request starts old phase index names needed
-    pub order-long : length order₀ ≡ 512
+    pub order-long : length order₀ ≡ 1024
     pub packages-long : length packages₀ ≡ 1024
     pub table-long : length table ≡ length table₀
     pub between : Between phase set starts order packages bound q
@@ -314,11 +314,11 @@ module _ (set request starts old : List ℕ) (phase : Phase) where
           left = one-round;
         }
 
-        pub rounds-less : (257 - r .head) + one (isDone (r .halt)) < (257 - q .head) + one (isDone (q .halt))
+        pub rounds-less : (513 - r .head) + one (isDone (r .halt)) < (513 - q .head) + one (isDone (q .halt))
         unfolding one
         rounds-less = rw (← ed, e) (go (isDone (r .halt)))
           where
-            go : (b : Bool) → (257 - r .head) + one b < (257 - q .head) + 1
+            go : (b : Bool) → (513 - r .head) + one b < (513 - q .head) + 1
             go true = omega (arith, on, was-ready .waits, tail-few (phase .count) order q was-ready, was-ready .few)
             go false = omega (arith, on)
 

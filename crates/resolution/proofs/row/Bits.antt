@@ -100,6 +100,11 @@ pub bit-with : (w b : ℕ) → b < 64 → (k : ℕ) → bit (bitOr w ((1 * 2 ^ b
 bit-with w b h k =
     bit-or w ((1 * 2 ^ b) % 2 ^ 64) k ∙ ap (λ (t : Bool). bit w k || t) (ap (λ (x : ℕ). bit x k) (shl-one b h) ∙ bit-pow b k)
 
+pub or-one : (w b : ℕ) → b < 64 → bitOr w ((1 * 2 ^ b) % 2 ^ 64) ≡ bitOr w (2 ^ b)
+or-one w b h = ap (bitOr w) (shl-one b h)
+
+pub ruleset word-with-laws = (bit-with, or-one)
+
 -- ---- the first one
 bit-shr : (w b i : ℕ) → bit (w / 2 ^ b) i ≡ bit w (b + i)
 unfolding bit

@@ -10,14 +10,14 @@ use lib.Seq.{getD-set-same, getD-set-other}
 use lib.Count.{ones, ones-le}
 use mir.Syntax.{w64}
 use mir.Val.{Fits}
-use lib.Bits.{bitOr}
+use lib.Bits.{bitOr, bitAnd}
 use borrow.Author.Tests.{eq-eqb, ne-eqb, eqb-true, eqb-false, ltb-true, ltb-false}
-use Rattle.records.proofs.Logic.{true≠false}
-use Rattle.resolution.specs.Row.{bit, holds, countBelow, size, Empty, United, Added, FirstFrom}
-use Rattle.resolution.proofs.row.Bits.{bit-zero, bit-or}
+use Rattle.records.proofs.Logic.{true≠false, by}
+use Rattle.resolution.specs.Row.{bit, holds, countBelow, size, Empty, United, Intersected, Added, FirstFrom}
+use Rattle.resolution.proofs.row.Bits.{bit-zero, bit-or, bit-and}
 use Rattle.resolution.proofs.row.Counts.{count-zero, count-add, count-same, count-none, none-of-count, ones-bits}
 
-pub holds-out : (ws : List ℕ) (k : ℕ) → length ws ≡ 4 → 256 ≤ k → holds ws k ≡ false
+pub holds-out : (ws : List ℕ) (k : ℕ) → length ws ≡ 8 → 512 ≤ k → holds ws k ≡ false
 unfolding holds
 holds-out ws k e h = ap (λ (w : ℕ). bit w (k % 64)) (List·getD-eq-default ws 0 {n = k / 64} (omega arith)) ∙ bit-zero (k % 64)
 
@@ -53,13 +53,17 @@ word ws i h =
     (λ k l. ap₂ (λ (x y : ℕ). bit (getD ws x 0) y) (omega arith) (omega arith))
     ∙ sym (ones-bits 64 (getD ws i 0) h)
 
--- the ones of the four words are the positions that are held
+-- the ones of the eight words are the positions that are held
 pub size-ones : (ws : List ℕ) → ((i : ℕ) → getD ws i 0 < 2 ^ 64)
-    → size ws ≡ ones (getD ws 0 0) + ones (getD ws 1 0) + ones (getD ws 2 0) + ones (getD ws 3 0)
+    → size ws ≡ ones (getD ws 0 0) + ones (getD ws 1 0) + ones (getD ws 2 0) + ones (getD ws 3 0) + ones (getD ws 4 0) + ones (getD ws 5 0) + ones (getD ws 6 0) + ones (getD ws 7 0)
 unfolding size
 size-ones ws h =
     omega (
       arith,
+      count-add (holds ws) 448 64,
+      count-add (holds ws) 384 64,
+      count-add (holds ws) 320 64,
+      count-add (holds ws) 256 64,
       count-add (holds ws) 192 64,
       count-add (holds ws) 128 64,
       count-add (holds ws) 64 64,
@@ -69,6 +73,10 @@ size-ones ws h =
       word ws 1 (h 1),
       word ws 2 (h 2),
       word ws 3 (h 3),
+      word ws 4 (h 4),
+      word ws 5 (h 5),
+      word ws 6 (h 6),
+      word ws 7 (h 7),
     )
 
 -- ---- every word
@@ -84,41 +92,68 @@ empty-zeros n = record { none = λ k. ap (λ (w : ℕ). bit w (k % 64)) (zero-at
 -- the words of two rows, one by one
 abbrev pub ors : List ℕ → List ℕ → List ℕ
 ors a b =
-    bitOr (getD a 0 0) (getD b 0 0) ∷ bitOr (getD a 1 0) (getD b 1 0) ∷ bitOr (getD a 2 0) (getD b 2 0) ∷ bitOr (getD a 3 0) (getD b 3 0) ∷ []
+    bitOr (getD a 0 0) (getD b 0 0) ∷ bitOr (getD a 1 0) (getD b 1 0) ∷ bitOr (getD a 2 0) (getD b 2 0) ∷ bitOr (getD a 3 0) (getD b 3 0) ∷ bitOr (getD a 4 0) (getD b 4 0) ∷ bitOr (getD a 5 0) (getD b 5 0) ∷ bitOr (getD a 6 0) (getD b 6 0) ∷ bitOr (getD a 7 0) (getD b 7 0) ∷ []
 
-ors-at : (a b : List ℕ) → length a ≡ 4 → length b ≡ 4 → (i : ℕ) → getD (ors a b) i 0 ≡ bitOr (getD a i 0) (getD b i 0)
+ors-at : (a b : List ℕ) → length a ≡ 8 → length b ≡ 8 → (i : ℕ) → getD (ors a b) i 0 ≡ bitOr (getD a i 0) (getD b i 0)
 ors-at a b p q zero = refl
 ors-at a b p q (suc zero) = refl
 ors-at a b p q (suc (suc zero)) = refl
 ors-at a b p q (suc (suc (suc zero))) = refl
-ors-at a b p q (suc (suc (suc (suc i)))) =
-    sym (ap₂ bitOr (List·getD-eq-default a 0 {n = suc (suc (suc (suc i)))} (omega arith)) (List·getD-eq-default b 0 {n = suc (suc (suc (suc i)))} (omega arith)))
+ors-at a b p q (suc (suc (suc (suc zero)))) = refl
+ors-at a b p q (suc (suc (suc (suc (suc zero))))) = refl
+ors-at a b p q (suc (suc (suc (suc (suc (suc zero)))))) = refl
+ors-at a b p q (suc (suc (suc (suc (suc (suc (suc zero))))))) = refl
+ors-at a b p q (suc (suc (suc (suc (suc (suc (suc (suc i)))))))) =
+    sym (ap₂ bitOr (List·getD-eq-default a 0 {n = suc (suc (suc (suc (suc (suc (suc (suc i)))))))} (omega arith)) (List·getD-eq-default b 0 {n = suc (suc (suc (suc (suc (suc (suc (suc i)))))))} (omega arith)))
 
-pub union-is : (a b : List ℕ) → length a ≡ 4 → length b ≡ 4 → United a b (ors a b)
+pub union-is : (a b : List ℕ) → length a ≡ 8 → length b ≡ 8 → United a b (ors a b)
 unfolding holds
 union-is a b p q = record {
   either = λ k. ap (λ (w : ℕ). bit w (k % 64)) (ors-at a b p q (k / 64)) ∙ bit-or (getD a (k / 64) 0) (getD b (k / 64) 0) (k % 64);
 }
 
+abbrev pub ands : List ℕ → List ℕ → List ℕ
+ands a b =
+    bitAnd (getD a 0 0) (getD b 0 0) ∷ bitAnd (getD a 1 0) (getD b 1 0) ∷ bitAnd (getD a 2 0) (getD b 2 0) ∷ bitAnd (getD a 3 0) (getD b 3 0) ∷ bitAnd (getD a 4 0) (getD b 4 0) ∷ bitAnd (getD a 5 0) (getD b 5 0) ∷ bitAnd (getD a 6 0) (getD b 6 0) ∷ bitAnd (getD a 7 0) (getD b 7 0) ∷ []
+
+ands-at : (a b : List ℕ) (i : ℕ) → i < 8 → getD (ands a b) i 0 ≡ bitAnd (getD a i 0) (getD b i 0)
+ands-at a b zero l = refl
+ands-at a b (suc zero) l = refl
+ands-at a b (suc (suc zero)) l = refl
+ands-at a b (suc (suc (suc zero))) l = refl
+ands-at a b (suc (suc (suc (suc zero)))) l = refl
+ands-at a b (suc (suc (suc (suc (suc zero))))) l = refl
+ands-at a b (suc (suc (suc (suc (suc (suc zero)))))) l = refl
+ands-at a b (suc (suc (suc (suc (suc (suc (suc zero))))))) l = refl
+ands-at a b (suc (suc (suc (suc (suc (suc (suc (suc i)))))))) l = absurd (omega arith)
+
+pub intersection-is : (a b : List ℕ) → length a ≡ 8 → Intersected a b (ands a b)
+intersection-is a b p = record {
+  both = λ k. by (ltb k 512)
+      (λ h. let l : k < 512 = ltb-true k 512 h in
+      unfold holds in (ap (λ (w : ℕ). bit w (k % 64)) (ands-at a b (k / 64) (omega arith)) ∙ bit-and (getD a (k / 64) 0) (getD b (k / 64) 0) (k % 64)))
+      (λ h. let l : 512 ≤ k = ltb-false k 512 h in holds-out (ands a b) k refl l ∙ sym (ap (λ (t : Bool). t && holds b k) (holds-out a k p l)));
+}
+
 -- ---- an empty row: `size` is 0 where nothing is held, and nowhere else
 pub size-none : (ws : List ℕ) → Empty ws → size ws ≡ 0
 unfolding size
-size-none ws h = count-none (holds ws) 256 (λ k l. h .none k)
+size-none ws h = count-none (holds ws) 512 (λ k l. h .none k)
 
-pub none-of-size : (ws : List ℕ) → length ws ≡ 4 → size ws ≡ 0 → Empty ws
+pub none-of-size : (ws : List ℕ) → length ws ≡ 8 → size ws ≡ 0 → Empty ws
 unfolding size
-none-of-size ws n e = record { none = λ k. go k (ltb k 256) refl }
+none-of-size ws n e = record { none = λ k. go k (ltb k 512) refl }
   where
-    go : (k : ℕ) (t : Bool) → ltb k 256 ≡ t → holds ws k ≡ false
-    go k true h = none-of-count (holds ws) 256 e k (ltb-true k 256 h)
-    go k false h = holds-out ws k n (ltb-false k 256 h)
+    go : (k : ℕ) (t : Bool) → ltb k 512 ≡ t → holds ws k ≡ false
+    go k true h = none-of-count (holds ws) 512 e k (ltb-true k 512 h)
+    go k false h = holds-out ws k n (ltb-false k 512 h)
 
 -- ---- what each function returns
 pub has-in : (ws : List ℕ) (k : ℕ) (r : Bool) → r ≡ bit (getD ws (k / 64) 0) (k % 64) → r ≡ holds ws k
 unfolding holds
 has-in ws k r e = e
 
-pub has-out : (ws : List ℕ) (k : ℕ) → length ws ≡ 4 → 256 ≤ k → false ≡ holds ws k
+pub has-out : (ws : List ℕ) (k : ℕ) → length ws ≡ 8 → 512 ≤ k → false ≡ holds ws k
 has-out ws k n h = sym (holds-out ws k n h)
 
 -- word q of a row with position k more
@@ -128,19 +163,27 @@ word-in w q k r e h b = rw (eq-eqb (k / 64) q e) (h b)
 pub word-out : (w q k : ℕ) → (k / 64 ≡ q → ⊥) → (b : ℕ) → bit w b ≡ bit w b || (eqb (k / 64) q && eqb b (k % 64))
 word-out w q k e b = rw (ne-eqb (k / 64) q e) (sym (or-false (bit w b)))
 
-module _ (ws : List ℕ) (k w₀ w₁ w₂ w₃ : ℕ) (n : length ws ≡ 4) (l : k < 256)
+module _ (ws : List ℕ) (k w₀ w₁ w₂ w₃ w₄ w₅ w₆ w₇ : ℕ) (n : length ws ≡ 8) (l : k < 512)
     (h₀ : (b : ℕ) → bit w₀ b ≡ bit (getD ws 0 0) b || (eqb (k / 64) 0 && eqb b (k % 64)))
     (h₁ : (b : ℕ) → bit w₁ b ≡ bit (getD ws 1 0) b || (eqb (k / 64) 1 && eqb b (k % 64)))
     (h₂ : (b : ℕ) → bit w₂ b ≡ bit (getD ws 2 0) b || (eqb (k / 64) 2 && eqb b (k % 64)))
-    (h₃ : (b : ℕ) → bit w₃ b ≡ bit (getD ws 3 0) b || (eqb (k / 64) 3 && eqb b (k % 64))) where
-  words-at : (q b : ℕ) → bit (getD (w₀ ∷ w₁ ∷ w₂ ∷ w₃ ∷ []) q 0) b ≡ bit (getD ws q 0) b || (eqb (k / 64) q && eqb b (k % 64))
+    (h₃ : (b : ℕ) → bit w₃ b ≡ bit (getD ws 3 0) b || (eqb (k / 64) 3 && eqb b (k % 64)))
+    (h₄ : (b : ℕ) → bit w₄ b ≡ bit (getD ws 4 0) b || (eqb (k / 64) 4 && eqb b (k % 64)))
+    (h₅ : (b : ℕ) → bit w₅ b ≡ bit (getD ws 5 0) b || (eqb (k / 64) 5 && eqb b (k % 64)))
+    (h₆ : (b : ℕ) → bit w₆ b ≡ bit (getD ws 6 0) b || (eqb (k / 64) 6 && eqb b (k % 64)))
+    (h₇ : (b : ℕ) → bit w₇ b ≡ bit (getD ws 7 0) b || (eqb (k / 64) 7 && eqb b (k % 64))) where
+  words-at : (q b : ℕ) → bit (getD (w₀ ∷ w₁ ∷ w₂ ∷ w₃ ∷ w₄ ∷ w₅ ∷ w₆ ∷ w₇ ∷ []) q 0) b ≡ bit (getD ws q 0) b || (eqb (k / 64) q && eqb b (k % 64))
   words-at zero b = h₀ b
   words-at (suc zero) b = h₁ b
   words-at (suc (suc zero)) b = h₂ b
   words-at (suc (suc (suc zero))) b = h₃ b
-  words-at (suc (suc (suc (suc q)))) b =
-      let g : getD ws (suc (suc (suc (suc q)))) 0 ≡ 0 = List·getD-eq-default ws 0 {n = suc (suc (suc (suc q)))} (omega arith) in
-      rw (g, ne-eqb (k / 64) (suc (suc (suc (suc q)))) (omega arith)) (sym (or-false (bit 0 b)))
+  words-at (suc (suc (suc (suc zero)))) b = h₄ b
+  words-at (suc (suc (suc (suc (suc zero))))) b = h₅ b
+  words-at (suc (suc (suc (suc (suc (suc zero)))))) b = h₆ b
+  words-at (suc (suc (suc (suc (suc (suc (suc zero))))))) b = h₇ b
+  words-at (suc (suc (suc (suc (suc (suc (suc (suc q)))))))) b =
+      let g : getD ws (suc (suc (suc (suc (suc (suc (suc (suc q)))))))) 0 ≡ 0 = List·getD-eq-default ws 0 {n = suc (suc (suc (suc (suc (suc (suc (suc q)))))))} (omega arith) in
+      rw (g, ne-eqb (k / 64) (suc (suc (suc (suc (suc (suc (suc (suc q)))))))) (omega arith)) (sym (or-false (bit 0 b)))
 
   same-place : (j : ℕ) → (eqb (k / 64) (j / 64) && eqb (j % 64) (k % 64)) ≡ eqb j k
   same-place j = go (eqb (k / 64) (j / 64)) refl
@@ -149,16 +192,32 @@ module _ (ws : List ℕ) (k w₀ w₁ w₂ w₃ : ℕ) (n : length ws ≡ 4) (l 
       go true e = eqb-parts j k (sym (eqb-true (k / 64) (j / 64) e))
       go false e = sym (ne-eqb j k (λ i. true≠false (eq-eqb (k / 64) (j / 64) (ap (λ (z : ℕ). z / 64) (sym i))) e))
 
-  pub with-in : Added ws k (w₀ ∷ w₁ ∷ w₂ ∷ w₃ ∷ [])
+  with-in : Added ws k (w₀ ∷ w₁ ∷ w₂ ∷ w₃ ∷ w₄ ∷ w₅ ∷ w₆ ∷ w₇ ∷ [])
   unfolding holds
   with-in = record { below = λ _ j. words-at (j / 64) (j % 64) ∙ rw (same-place j); above = λ g. absurd (omega arith) }
 
-pub with-out : (ws : List ℕ) (k : ℕ) → 256 ≤ k → Added ws k ws
+-- w is word q with position k, where k is in it
+abbrev WordOf : List ℕ → ℕ → ℕ → ℕ → Type 0
+WordOf ws k q w = (b : ℕ) → bit w b ≡ bit (getD ws q 0) b || (eqb (k / 64) q && eqb b (k % 64))
+
+module _ (ws : List ℕ) (k : ℕ) (n : length ws ≡ 8) where
+  pub with-low : (w₀ w₁ w₂ w₃ : ℕ) → k < 256 → WordOf ws k 0 w₀ → WordOf ws k 1 w₁ → WordOf ws k 2 w₂ → WordOf ws k 3 w₃
+      → Added ws k (w₀ ∷ w₁ ∷ w₂ ∷ w₃ ∷ getD ws 4 0 ∷ getD ws 5 0 ∷ getD ws 6 0 ∷ getD ws 7 0 ∷ [])
+  with-low w₀ w₁ w₂ w₃ l a b c d = with-in ws k w₀ w₁ w₂ w₃ (getD ws 4 0) (getD ws 5 0) (getD ws 6 0) (getD ws 7 0) n (omega arith)
+      a b c d (word-out (getD ws 4 0) 4 k (λ e. omega arith)) (word-out (getD ws 5 0) 5 k (λ e. omega arith)) (word-out (getD ws 6 0) 6 k (λ e. omega arith)) (word-out (getD ws 7 0) 7 k (λ e. omega arith))
+
+  pub with-high : (w₄ w₅ w₆ w₇ : ℕ) → 256 ≤ k → k < 512 → WordOf ws k 4 w₄ → WordOf ws k 5 w₅ → WordOf ws k 6 w₆ → WordOf ws k 7 w₇
+      → Added ws k (getD ws 0 0 ∷ getD ws 1 0 ∷ getD ws 2 0 ∷ getD ws 3 0 ∷ w₄ ∷ w₅ ∷ w₆ ∷ w₇ ∷ [])
+  with-high w₄ w₅ w₆ w₇ g l a b c d = with-in ws k (getD ws 0 0) (getD ws 1 0) (getD ws 2 0) (getD ws 3 0) w₄ w₅ w₆ w₇ n l
+      (word-out (getD ws 0 0) 0 k (λ e. omega arith)) (word-out (getD ws 1 0) 1 k (λ e. omega arith)) (word-out (getD ws 2 0) 2 k (λ e. omega arith)) (word-out (getD ws 3 0) 3 k (λ e. omega arith)) a b c d
+
+pub with-out : (ws : List ℕ) (k : ℕ) → 512 ≤ k → Added ws k ws
 with-out ws k l = record { below = λ g. absurd (omega arith); above = λ _. refl }
 
-pub count-is : (ws : List ℕ) (a b c d : ℕ) → ((i : ℕ) → Fits w64 (getD ws i 0))
-    → a ≡ ones (getD ws 0 0) → b ≡ ones (getD ws 1 0) → c ≡ ones (getD ws 2 0) → d ≡ ones (getD ws 3 0) → a + b + c + d ≡ size ws
-count-is ws a b c d f p q r s = omega (arith, size-ones ws (λ i. f i .fits))
+pub count-is : (ws : List ℕ) (a b c d e f g h : ℕ) → ((i : ℕ) → Fits w64 (getD ws i 0))
+    → a ≡ ones (getD ws 0 0) → b ≡ ones (getD ws 1 0) → c ≡ ones (getD ws 2 0) → d ≡ ones (getD ws 3 0) → e ≡ ones (getD ws 4 0) → f ≡ ones (getD ws 5 0)
+    → g ≡ ones (getD ws 6 0) → h ≡ ones (getD ws 7 0) → a + b + c + d + e + f + g + h ≡ size ws
+count-is ws a b c d e f g h fits p₀ p₁ p₂ p₃ p₄ p₅ p₆ p₇ = omega (arith, size-ones ws (λ i. fits i .fits))
 
 pub ones-fits : (w : ℕ) → Fits w64 w → Fits w64 (ones w)
 ones-fits w f = record { fits = omega (arith, ones-le 64 w (f .fits)) }
@@ -172,10 +231,10 @@ is-empty-is n m e = ap (λ (x : ℕ). eqb x 0) e
 -- ---- the next position: none from k on and before `at` is held
 pub record NextAt (ws : List ℕ) (k at : ℕ) : Type 0 where
   pub from : k ≤ at
-  pub within : at ≤ 256
+  pub within : at ≤ 512
   pub none : (i : ℕ) → k ≤ i → i < at → holds ws i ≡ false
 
-pub next-start : (ws : List ℕ) (k : ℕ) → k ≤ 256 → NextAt ws k k
+pub next-start : (ws : List ℕ) (k : ℕ) → k ≤ 512 → NextAt ws k k
 next-start ws k h = record { from = omega arith; within = h; none = λ i f l. absurd (omega arith) }
 
 module _ {ws : List ℕ} {k at : ℕ} (h : NextAt ws k at) where
@@ -192,8 +251,8 @@ module _ {ws : List ℕ} {k at : ℕ} (h : NextAt ws k at) where
           let q : i / 64 ≡ at / 64 = omega arith in
           ap (λ (x : ℕ). bit (getD ws x 0) (i % 64)) q ∙ o .none (i % 64) (omega arith) (omega arith)
 
-  pub next-found : (b : ℕ) → at < 256 → FirstFrom (bit (getD ws (at / 64) 0)) (at % 64) 64 b → b < 64
-      → FirstFrom (holds ws) k 256 (at / 64 * 64 + b)
+  pub next-found : (b : ℕ) → at < 512 → FirstFrom (bit (getD ws (at / 64) 0)) (at % 64) 64 b → b < 64
+      → FirstFrom (holds ws) k 512 (at / 64 * 64 + b)
   unfolding holds
   next-found b a o l =
       let q : (at / 64 * 64 + b) / 64 ≡ at / 64 = omega arith in
@@ -205,11 +264,11 @@ module _ {ws : List ℕ} {k at : ℕ} (h : NextAt ws k at) where
         found = λ _. ap₂ (λ (x y : ℕ). bit (getD ws x 0) y) q r ∙ o .found l;
       }
 
-  pub next-on : (b : ℕ) → at < 256 → FirstFrom (bit (getD ws (at / 64) 0)) (at % 64) 64 b → 64 ≤ b → NextAt ws k (at / 64 * 64 + 64)
+  pub next-on : (b : ℕ) → at < 512 → FirstFrom (bit (getD ws (at / 64) 0)) (at % 64) 64 b → 64 ≤ b → NextAt ws k (at / 64 * 64 + 64)
   next-on b a o l =
       record { from = omega (arith, h .from); within = omega arith; none = λ i f g. clear b o i f (omega arith) }
 
-  pub next-end : 256 ≤ at → FirstFrom (holds ws) k 256 256
+  pub next-end : 512 ≤ at → FirstFrom (holds ws) k 512 512
   next-end l = record {
     from = omega (arith, h .from, h .within);
     within = omega arith;
@@ -225,4 +284,4 @@ pub ruleset ones-laws = (ones-fits, ones-64)
 
 pub ruleset word-of-laws = (word-in, word-out)
 
-pub ruleset with-laws = (with-in, with-out)
+pub ruleset with-laws = (with-low, with-high, with-out)

@@ -42,19 +42,19 @@ unfolding hasPosition
 visible-start-at index ws h = record { within = omega arith; so-far = λ j. h .none j }
 
 module _ (s t index : List ℕ) (n : ℕ) (x : Lookup s t n index) where
-  pub visible-long : length index ≡ 1026
+  pub visible-long : length index ≡ 2050
   visible-long = x .indexed .long
 
   module _ (ws : List ℕ) (k : ℕ) (h : VisibleAt index ws k) (m : ℕ) (em : m ≡ entriesIn index) where
-    pub visible-few : k < m → k < 256
+    pub visible-few : k < m → k < 512
     visible-few l = omega (arith, x .indexed .few, x .indexed .most)
 
-    pub visible-more : (p : ℕ) (after : List ℕ) → k < m → p ≡ getD index (770 + k) 0 → Added ws p after → VisibleAt index after (k + 1)
+    pub visible-more : (p : ℕ) (after : List ℕ) → k < m → p ≡ getD index (1538 + k) 0 → Added ws p after → VisibleAt index after (k + 1)
     visible-more p after l ep a =
         let kl : k < entriesIn index = omega (arith, em) in
         let kt : k < length (tableIn index) = rw (table-long (map (nameAt s) (take n t)) index (x .indexed)) kl in
         let ea : getD (tableIn index) k 0 ≡ p = entry-at (map (nameAt s) (take n t)) index (x .indexed) k kl ∙ sym ep in
-        let small : p < 256 = rw ep (omega (arith, entry-in (map (nameAt s) (take n t)) index (x .indexed) k kl, x .indexed .most)) in
+        let small : p < 512 = rw ep (omega (arith, entry-in (map (nameAt s) (take n t)) index (x .indexed) k kl, x .indexed .most)) in
         record {
           within = omega (arith, em);
           so-far = λ j. a .below small j ∙ rw (h .so-far j) (sym (rw (add-one k, take-suc (tableIn index) k 0 kt, ea) (has-last j p (take k (tableIn index)))));

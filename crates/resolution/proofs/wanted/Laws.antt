@@ -177,7 +177,7 @@ module _ (set request starts old : List ℕ) (phase : Phase) (n : List ℕ) (opt
 
 -- what the calls ask
 module _ (set request starts old : List ℕ) (phase : Phase) (index names needed : List ℕ) (h : Tables set request starts old phase index names needed) where
-  pub want-few : phase .count ≤ 256
+  pub want-few : phase .count ≤ 512
   want-few = h .lookup .few
 
   pub want-inside : phase .count ≤ length starts

@@ -50,7 +50,7 @@ module _ (s : List ℕ) (k : Checked) (ek : k ≡ checkSet s) (n : ℕ) (h : k .
   taken : checkSet s ≡ record { answer = Modules n; starts = k .starts }
   taken = sym ek ∙ ap (λ (z : SetAnswer). record { answer = z; starts = k .starts }) h
 
-  pub hidden-few : n ≤ 256
+  pub hidden-few : n ≤ 512
   hidden-few = good-set s n (k .starts) taken .few
 
   pub hidden-room : n ≤ length (k .starts)

@@ -4,10 +4,10 @@ use Rattle.resolve.proofs.list_modules.Statement.{statement}
 use Rattle.resolve.proofs.list_modules.Tie as tie
 
 abbrev Inv-loop : tie.InvT-loop
-Inv-loop set starts names count c k₀ t10 k = Unit {0}
+Inv-loop set starts names count words k₀ t10 k = Unit {0}
 
 abbrev μ-loop : tie.MeasureT-loop
-μ-loop set starts names count c k₀ t10 k = count - k
+μ-loop set starts names count words k₀ t10 k = count - k
 
 pub list-modules-spec : {M : Type 1} → statement M
 list-modules-spec =
@@ -19,8 +19,6 @@ list-modules-spec =
     (λ c. search needs)
     (λ c. search needs)
     (λ c. search needs)
-    (λ c κs. search needs)
-    (λ c κs. search needs)
     (λ c κs. search needs)
     (λ c κs. search needs)
     (λ c κs. search needs)

@@ -4,10 +4,10 @@ use Rattle.resolve.proofs.list_row.Statement.{statement}
 use Rattle.resolve.proofs.list_row.Tie as tie
 
 abbrev Inv-loop : tie.InvT-loop
-Inv-loop set starts names from to row k₀ t9 k = Unit {0}
+Inv-loop set starts names from to words i k₀ t9 k = Unit {0}
 
 abbrev μ-loop : tie.MeasureT-loop
-μ-loop set starts names from to row k₀ t9 k = to - k
+μ-loop set starts names from to words i k₀ t9 k = to - k
 
 pub list-row-spec : {M : Type 1} → statement M
 list-row-spec =

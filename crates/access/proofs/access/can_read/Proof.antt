@@ -1,5 +1,6 @@
 use Rattle.access.proofs.access.Laws.{can-laws}
 use borrow.Author.Needs.{needs}
+use borrow.Author.Needs.{needs}
 use Rattle.access.proofs.access.can_read.Statement.{statement}
 use Rattle.access.proofs.access.can_read.Tie as tie
 
@@ -9,6 +10,7 @@ can-read-spec =
     (tie.spec
     (λ c. search (can-laws, needs))
     (λ c κs. search (can-laws, needs))
+    (λ c. search (can-laws, needs))
     (λ c. search (can-laws, needs))
     (λ c. search (can-laws, needs))
     (λ c κs. search (can-laws, needs))

@@ -1,5 +1,6 @@
 use Rattle.access.proofs.access.Laws.{answer-laws}
 use borrow.Author.Needs.{needs}
+use borrow.Author.Needs.{needs}
 use Rattle.access.proofs.access.check_access.Statement.{statement}
 use Rattle.access.proofs.access.check_access.Tie as tie
 
@@ -9,6 +10,7 @@ check-access-spec =
     (tie.spec
     (λ c. search (answer-laws, needs))
     (λ c κs. search (answer-laws, needs))
+    (λ c. search (answer-laws, needs))
     (λ c. search (answer-laws, needs))
     (λ c. search (answer-laws, needs))
     (λ c. search (answer-laws, needs))

@@ -1,5 +1,6 @@
 use Rattle.access.proofs.access.Laws.{reads-laws}
 use borrow.Author.Needs.{needs}
+use borrow.Author.Needs.{needs}
 use Rattle.access.proofs.access.reads_name.Statement.{statement}
 use Rattle.access.proofs.access.reads_name.Tie as tie
 
@@ -9,8 +10,6 @@ reads-name-spec =
     (tie.spec
     (λ c κs. search (reads-laws, needs))
     (λ c. search (reads-laws, needs))
-    (λ c κs. search (reads-laws, needs))
-    (λ c κs. search (reads-laws, needs))
     (λ c κs. search (reads-laws, needs))
     (λ c. search (reads-laws, needs))
     (λ c. search (reads-laws, needs))

@@ -1,14 +1,14 @@
-use borrow.Author.Needs.{needs}
 use Prim.Native.Nat.{_-_}
 use Rattle.access.proofs.graph.Leads.{NoneAt, any-laws}
+use borrow.Author.Needs.{needs}
 use Rattle.access.proofs.graph.any_unnamed.Statement.{statement}
 use Rattle.access.proofs.graph.any_unnamed.Tie as tie
 
 abbrev Inv-loop : tie.InvT-loop
-Inv-loop row members unnamed n k₀ k = NoneAt (row .words) (members .words) (unnamed .words) k
+Inv-loop words row members n k₀ k = NoneAt (row .words) (members .words) words k
 
 abbrev μ-loop : tie.MeasureT-loop
-μ-loop row members unnamed n k₀ k = n - k
+μ-loop words row members n k₀ k = n - k
 
 pub any-unnamed-spec : {M : Type 1} → statement M
 any-unnamed-spec =

@@ -1,5 +1,6 @@
 use Rattle.access.proofs.graph.Rows.{reader-laws}
 use borrow.Author.Needs.{needs}
+use borrow.Author.Needs.{needs}
 use Rattle.access.proofs.graph.is_reader.Statement.{statement}
 use Rattle.access.proofs.graph.is_reader.Tie as tie
 

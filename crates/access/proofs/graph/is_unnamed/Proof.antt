@@ -1,5 +1,6 @@
 use Rattle.access.proofs.graph.Leads.{unnamed-laws}
 use borrow.Author.Needs.{needs}
+use borrow.Author.Needs.{needs}
 use Rattle.access.proofs.graph.is_unnamed.Statement.{statement}
 use Rattle.access.proofs.graph.is_unnamed.Tie as tie
 

@@ -1,5 +1,6 @@
 use Rattle.access.proofs.graph.Leads.{onward-is}
 use borrow.Author.Needs.{needs}
+use borrow.Author.Needs.{needs}
 use Rattle.access.proofs.graph.onward.Statement.{statement}
 use Rattle.access.proofs.graph.onward.Tie as tie
 

@@ -1,5 +1,7 @@
 use Rattle.access.proofs.graph.Answers.{readers-in-laws}
 use borrow.Author.Needs.{needs}
+use borrow.Author.Needs.{needs}
+use borrow.Author.Needs.{needs}
 use Rattle.access.proofs.graph.readers_in.Statement.{statement}
 use Rattle.access.proofs.graph.readers_in.Tie as tie
 
@@ -11,7 +13,6 @@ readers-in-spec =
     (λ c. search (readers-in-laws, needs))
     (λ c κs. search (readers-in-laws, needs))
     (λ c κs. search (readers-in-laws, needs))
-    (λ c. search (readers-in-laws, needs))
     (λ c κs. search (readers-in-laws, needs))
     (λ c κs. search (readers-in-laws, needs))
     (λ c. search (readers-in-laws, needs)))

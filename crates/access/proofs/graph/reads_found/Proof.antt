@@ -1,5 +1,6 @@
 use Rattle.access.proofs.graph.Rows.{found-laws}
 use borrow.Author.Needs.{needs}
+use borrow.Author.Needs.{needs}
 use Rattle.access.proofs.graph.reads_found.Statement.{statement}
 use Rattle.access.proofs.graph.reads_found.Tie as tie
 
@@ -8,7 +9,6 @@ reads-found-spec =
     tie.close
     (tie.spec
     (λ c. search (found-laws, needs))
-    (λ c κs. search (found-laws, needs))
     (λ c κs. search (found-laws, needs))
     (λ c. search (found-laws, needs))
     (λ c. search (found-laws, needs))

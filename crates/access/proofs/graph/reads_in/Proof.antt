@@ -1,5 +1,6 @@
 use Rattle.access.proofs.graph.Answers.{reads-in-laws}
 use borrow.Author.Needs.{needs}
+use borrow.Author.Needs.{needs}
 use Rattle.access.proofs.graph.reads_in.Statement.{statement}
 use Rattle.access.proofs.graph.reads_in.Tie as tie
 
@@ -11,8 +12,7 @@ reads-in-spec =
     (λ c. search (reads-in-laws, needs))
     (λ c κs. search (reads-in-laws, needs))
     (λ c κs. search (reads-in-laws, needs))
-    (λ c. search (reads-in-laws, c .before .before .before .before .before .before .before .before .before .before .before .before .before .before .good, needs))
-    (λ c κs. search (reads-in-laws, c .before .before .before .before .before .before .before .before .before .before .before .before .before .before .good, needs))
+    (λ c κs. search (reads-in-laws, needs))
     (λ c. search (reads-in-laws, needs))
     (λ c κs. search (reads-in-laws, needs))
     (λ c κs. search (reads-in-laws, needs))

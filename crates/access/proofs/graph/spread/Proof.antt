@@ -1,5 +1,6 @@
 use Rattle.access.proofs.graph.Leads.{spread-laws}
 use borrow.Author.Needs.{needs}
+use borrow.Author.Needs.{needs}
 use Rattle.access.proofs.graph.spread.Statement.{statement}
 use Rattle.access.proofs.graph.spread.Tie as tie
 

@@ -1,5 +1,6 @@
 use Rattle.access.proofs.access.Laws.{member-laws}
 use borrow.Author.Needs.{needs}
+use borrow.Author.Needs.{needs}
 use Rattle.access.proofs.members.member.Statement.{statement}
 use Rattle.access.proofs.members.member.Tie as tie
 

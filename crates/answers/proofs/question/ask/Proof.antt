@@ -4,10 +4,10 @@ use Rattle.answers.proofs.question.ask.Statement.{statement}
 use Rattle.answers.proofs.question.ask.Tie as tie
 
 abbrev Inv-loop : tie.InvT-loop
-Inv-loop set request c entries rest₀ i₀ rest i = i ≤ 256
+Inv-loop set request words entries rest₀ i₀ rest i = i ≤ 256
 
 abbrev μ-loop : tie.MeasureT-loop
-μ-loop set request c entries rest₀ i₀ rest i = 256 - i
+μ-loop set request words entries rest₀ i₀ rest i = 256 - i
 
 pub ask-spec : {M : Type 1} → statement M
 ask-spec =

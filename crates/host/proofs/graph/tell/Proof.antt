@@ -1,5 +1,6 @@
 use Rattle.host.proofs.graph.Laws.{graph-laws}
 use borrow.Author.Needs.{needs}
+use borrow.Author.Needs.{needs}
 use Rattle.host.proofs.graph.tell.Statement.{statement}
 use Rattle.host.proofs.graph.tell.Tie as tie
 

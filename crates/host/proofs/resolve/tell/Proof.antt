@@ -1,5 +1,6 @@
 use Rattle.host.proofs.resolve.Laws.{tell-laws}
 use borrow.Author.Needs.{needs}
+use borrow.Author.Needs.{needs}
 use Rattle.host.proofs.resolve.tell.Statement.{statement}
 use Rattle.host.proofs.resolve.tell.Tie as tie
 
@@ -11,10 +12,6 @@ tell-spec =
     (λ c κs. search (tell-laws, needs))
     (λ c. search (tell-laws, needs))
     (λ c κs. search (tell-laws, needs))
-    (λ c. search (tell-laws, needs))
     (λ c κs. search (tell-laws, needs))
-    (λ c κs. search (tell-laws, needs))
-    (λ c κs. search (tell-laws, needs))
-    (λ c. search (tell-laws, needs))
     (λ c. search (tell-laws, needs))
     (λ c. search (tell-laws, needs)))

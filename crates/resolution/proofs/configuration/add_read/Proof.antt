@@ -1,4 +1,5 @@
-use Rattle.resolution.proofs.reach.Edges.{added-laws}
+use Rattle.resolution.proofs.configuration.Laws.{add-read-laws}
+use borrow.Author.Needs.{needs}
 use borrow.Author.Needs.{needs}
 use Rattle.resolution.proofs.configuration.add_read.Statement.{statement}
 use Rattle.resolution.proofs.configuration.add_read.Tie as tie
@@ -7,13 +8,12 @@ pub add-read-spec : {M : Type 1} → statement M
 add-read-spec =
     tie.close
     (tie.spec
-    (λ c. search (added-laws, needs))
-    (λ c. search (added-laws, needs))
-    (λ c. search (added-laws, needs))
-    (λ c. search (added-laws, needs))
-    (λ c κs. search (added-laws, needs))
-    (λ c. search (added-laws, needs))
-    (λ c. search (added-laws, needs))
-    (λ c. search (added-laws, needs))
-    (λ c. search (added-laws, needs))
-    (λ c. search (added-laws, needs)))
+    (λ c. search (add-read-laws, needs))
+    (λ c. search (add-read-laws, needs))
+    (λ c κs. search (add-read-laws, needs))
+    (λ c. search (add-read-laws, needs))
+    (λ c. search (add-read-laws, needs))
+    (λ c. search (add-read-laws, needs))
+    (λ c. search (add-read-laws, needs))
+    (λ c. search (add-read-laws, needs))
+    (λ c. search (add-read-laws, needs)))

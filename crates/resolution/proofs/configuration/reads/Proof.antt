@@ -1,4 +1,5 @@
-use Rattle.resolution.proofs.reach.Edges.{edge-laws}
+use Rattle.resolution.proofs.configuration.Laws.{reads-laws}
+use borrow.Author.Needs.{needs}
 use borrow.Author.Needs.{needs}
 use Rattle.resolution.proofs.configuration.reads.Statement.{statement}
 use Rattle.resolution.proofs.configuration.reads.Tie as tie
@@ -7,11 +8,11 @@ pub reads-spec : {M : Type 1} → statement M
 reads-spec =
     tie.close
     (tie.spec
-    (λ c. search (edge-laws, needs))
-    (λ c. search (edge-laws, needs))
-    (λ c. search (edge-laws, needs))
-    (λ c. search (edge-laws, needs))
-    (λ c κs. search (edge-laws, needs))
-    (λ c. search (edge-laws, needs))
-    (λ c. search (edge-laws, needs))
-    (λ c. search (edge-laws, needs)))
+    (λ c. search (reads-laws, needs))
+    (λ c. search (reads-laws, needs))
+    (λ c. search (reads-laws, needs))
+    (λ c κs. search (reads-laws, needs))
+    (λ c κs. search (reads-laws, needs))
+    (λ c. search (reads-laws, needs))
+    (λ c. search (reads-laws, needs))
+    (λ c. search (reads-laws, needs)))

@@ -1,5 +1,6 @@
 use Rattle.resolution.proofs.configuration.Laws.{row-of-laws}
 use borrow.Author.Needs.{needs}
+use borrow.Author.Needs.{needs}
 use Rattle.resolution.proofs.configuration.row_of.Statement.{statement}
 use Rattle.resolution.proofs.configuration.row_of.Tie as tie
 
@@ -9,16 +10,21 @@ row-of-spec =
     (tie.spec
     (λ c. search (row-of-laws, needs))
     (λ c. search (row-of-laws, needs))
+    (λ c κs. search (row-of-laws, needs))
     (λ c. search (row-of-laws, needs))
+    (λ c κs. search (row-of-laws, needs))
     (λ c. search (row-of-laws, needs))
+    (λ c κs. search (row-of-laws, needs))
     (λ c. search (row-of-laws, needs))
+    (λ c κs. search (row-of-laws, needs))
     (λ c. search (row-of-laws, needs))
+    (λ c κs. search (row-of-laws, needs))
     (λ c. search (row-of-laws, needs))
+    (λ c κs. search (row-of-laws, needs))
     (λ c. search (row-of-laws, needs))
+    (λ c κs. search (row-of-laws, needs))
     (λ c. search (row-of-laws, needs))
-    (λ c. search (row-of-laws, needs))
-    (λ c. search (row-of-laws, needs))
-    (λ c. search (row-of-laws, needs))
+    (λ c κs. search (row-of-laws, needs))
     (λ c. search (row-of-laws, needs))
     (λ c κs. search (row-of-laws, needs))
     (λ c. search (row-of-laws, needs)))

@@ -1,4 +1,5 @@
-use Rattle.resolution.proofs.configure.Laws.{configure-is}
+use Rattle.resolution.proofs.configure.Laws.{configure-laws, configure-is}
+use borrow.Author.Needs.{needs}
 use borrow.Author.Needs.{needs}
 use Rattle.resolution.proofs.configure.configure.Statement.{statement}
 use Rattle.resolution.proofs.configure.configure.Tie as tie
@@ -7,8 +8,11 @@ pub configure-spec : {M : Type 1} → statement M
 configure-spec =
     tie.close
     (tie.spec
-    (λ c κs. search needs)
-    (λ c. search needs)
-    (λ c κs. search needs)
-    (λ c κs. search needs)
-    (λ c. search (configure-is, needs)))
+    (λ c κs. search (configure-laws, needs))
+    (λ c κs. search (configure-laws, needs))
+    (λ c. search (configure-laws, needs))
+    (λ c. search (configure-laws, needs))
+    (λ c. search (configure-laws, needs))
+    (λ c κs. search (configure-laws, needs))
+    (λ c. search (configure-laws, needs))
+    (λ c. search (configure-is, c .slice-known3 .given, needs)))

@@ -1,5 +1,6 @@
 use Rattle.resolution.proofs.filter.Laws.{bits-laws}
 use borrow.Author.Needs.{needs}
+use borrow.Author.Needs.{needs}
 use Rattle.resolution.proofs.filter.has_bits.Statement.{statement}
 use Rattle.resolution.proofs.filter.has_bits.Tie as tie
 

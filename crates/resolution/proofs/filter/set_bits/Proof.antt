@@ -1,5 +1,6 @@
 use Rattle.resolution.proofs.filter.Laws.{set-bits-is}
 use borrow.Author.Needs.{needs}
+use borrow.Author.Needs.{needs}
 use Rattle.resolution.proofs.filter.set_bits.Statement.{statement}
 use Rattle.resolution.proofs.filter.set_bits.Tie as tie
 

@@ -1,14 +1,14 @@
 use Prim.Native.Nat.{_-_}
-use borrow.Author.Needs.{needs}
 use Rattle.resolution.proofs.owner.Laws.{OwnerAt, owner-laws}
+use borrow.Author.Needs.{needs}
 use Rattle.resolution.proofs.owner.find_module_for_package.Statement.{statement}
 use Rattle.resolution.proofs.owner.find_module_for_package.Tie as tie
 
 abbrev Inv-loop : tie.InvT-loop
-Inv-loop set pkg index n starts members i₀ i = OwnerAt set starts n (members .words) pkg i
+Inv-loop set words pkg index n starts i₀ i = OwnerAt set starts n words pkg i
 
 abbrev μ-loop : tie.MeasureT-loop
-μ-loop set pkg index n starts members i₀ i = n - i
+μ-loop set words pkg index n starts i₀ i = n - i
 
 pub find-module-for-package-spec : {M : Type 1} → statement M
 find-module-for-package-spec =
@@ -18,6 +18,7 @@ find-module-for-package-spec =
     μ-loop
     (λ c. search (owner-laws, needs))
     (λ c κs. search (owner-laws, needs))
+    (λ c. search (owner-laws, needs))
     (λ c. search (owner-laws, needs))
     (λ c. search (owner-laws, needs))
     (λ c. search (owner-laws, needs))

@@ -1,5 +1,6 @@
 use Rattle.resolution.proofs.owner.Laws.{owns-laws}
 use borrow.Author.Needs.{needs}
+use borrow.Author.Needs.{needs}
 use Rattle.resolution.proofs.owner.owns.Statement.{statement}
 use Rattle.resolution.proofs.owner.owns.Tie as tie
 

@@ -39,7 +39,7 @@ abbrev Inv-loop : lts.InvT-loop
 Inv-loop g m out₀ k₀ out k = CollectAt g m (out₀ .words) (out .words) k
 
 abbrev μ-loop : lts.MeasureT-loop
-μ-loop g m out₀ k₀ out k = 256 - k
+μ-loop g m out₀ k₀ out k = 512 - k
 
 pub +collect-transitive-reads-spec : {M : Type 1} → statement M
 +collect-transitive-reads-spec = close μ λ t. lts.spec (claims t) (at t) own.Post Inv-loop μ-loop

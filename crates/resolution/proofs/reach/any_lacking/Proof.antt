@@ -1,5 +1,6 @@
 use Rattle.resolution.proofs.reach.Edges.{any-lacking-laws}
 use borrow.Author.Needs.{needs}
+use borrow.Author.Needs.{needs}
 use Rattle.resolution.proofs.reach.any_lacking.Statement.{statement}
 use Rattle.resolution.proofs.reach.any_lacking.Tie as tie
 
@@ -7,6 +8,22 @@ pub any-lacking-spec : {M : Type 1} → statement M
 any-lacking-spec =
     tie.close
     (tie.spec
+    (λ c. search (any-lacking-laws, needs))
+    (λ c. search (any-lacking-laws, needs))
+    (λ c. search (any-lacking-laws, needs))
+    (λ c. search (any-lacking-laws, needs))
+    (λ c. search (any-lacking-laws, needs))
+    (λ c. search (any-lacking-laws, needs))
+    (λ c. search (any-lacking-laws, needs))
+    (λ c. search (any-lacking-laws, needs))
+    (λ c. search (any-lacking-laws, needs))
+    (λ c. search (any-lacking-laws, needs))
+    (λ c. search (any-lacking-laws, needs))
+    (λ c. search (any-lacking-laws, needs))
+    (λ c. search (any-lacking-laws, needs))
+    (λ c. search (any-lacking-laws, needs))
+    (λ c. search (any-lacking-laws, needs))
+    (λ c. search (any-lacking-laws, needs))
     (λ c. search (any-lacking-laws, needs))
     (λ c. search (any-lacking-laws, needs))
     (λ c. search (any-lacking-laws, needs))

@@ -1,5 +1,6 @@
 use borrow.Author.Needs.{needs}
 use Rattle.resolution.proofs.reach.Edges.{next-edge-laws}
+use borrow.Author.Needs.{needs}
 use Rattle.resolution.proofs.reach.next_edge.Statement.{statement}
 use Rattle.resolution.proofs.reach.next_edge.Tie as tie
 
@@ -9,5 +10,7 @@ next-edge-spec =
     (tie.spec
     (λ c κs. search (next-edge-laws, needs))
     (λ c κs. search (next-edge-laws, needs))
+    (λ c κs. search (next-edge-laws, needs))
+    (λ c. search (next-edge-laws, needs))
     (λ c. search (next-edge-laws, needs))
     (λ c. search (next-edge-laws, needs)))

@@ -8,7 +8,7 @@ abbrev Inv-loop : tie.InvT-loop
 Inv-loop k words at₀ at = NextAt words k at
 
 abbrev μ-loop : tie.MeasureT-loop
-μ-loop k words at₀ at = 256 - at
+μ-loop k words at₀ at = 512 - at
 
 pub next-in-spec : {M : Type 1} → statement M
 next-in-spec =

@@ -8,7 +8,7 @@ abbrev Inv-loop : tie.InvT-loop
 Inv-loop g from out₀ k₀ out k = GatherAt g (from .words) (out .words) k
 
 abbrev μ-loop : tie.MeasureT-loop
-μ-loop g from out₀ k₀ out k = 256 - k
+μ-loop g from out₀ k₀ out k = 512 - k
 
 pub reachable-from-spec : {M : Type 1} → statement M
 reachable-from-spec =

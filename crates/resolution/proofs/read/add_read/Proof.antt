@@ -82,7 +82,7 @@ module _ {M : Type 1} (𝓤 : URA M) (H : Heap 𝓤) (A : Atoms 𝓤) (W : Given
   ws = h .words
 
   abbrev i : ℕ
-  i = j / 64 % 4
+  i = j / 64 % 8
 
   abbrev w : ℕ
   w = getD ws i 0
@@ -146,7 +146,7 @@ module _ {M : Type 1} (𝓤 : URA M) (H : Heap 𝓤) (A : Atoms 𝓤) (W : Given
         move ! (25 ∷ 26 ∷ []) $ free1 ! $ move ! (23 ∷ 24 ∷ []) $ free1 ! $ move ! (21 ∷ 22 ∷ []) $ free1 ! $ move ! (19 ∷ 20 ∷ []) $ free1 ! $ move ! (17 ∷ 18 ∷ []) $ free1 ! $ move ! (15 ∷ 16 ∷ []) $ free1 ! $ move ! (13 ∷ 14 ∷ []) $ free1 ! $ move ! (11 ∷ 12 ∷ []) $ free1 ! $ move ! (9 ∷ 10 ∷ []) $ free1 ! $ move ! (7 ∷ 8 ∷ []) $ free1 ! $ move ! (5 ∷ 6 ∷ []) $ free1 ! $ move ! (3 ∷ 4 ∷ []) $ free1 ! $ free0 ! $
         keep ! (0 ∷ 1 ∷ 2 ∷ []) $ by ! (exits r (added was r e))))))))))))))))))))
       where
-        four : Is T.the-row h (T′.lowered h ∷ []) → length (machs ws) ≡ 4
+        four : Is T.the-row h (T′.lowered h ∷ []) → length (machs ws) ≡ 8
         four was = mach-length ws ∙ long h _ was
 
         in-words : Is T.the-row h (T′.lowered h ∷ []) → i < length ws

@@ -1,5 +1,6 @@
 use Rattle.resolution.proofs.readability.Added.{set-read-laws}
 use borrow.Author.Needs.{needs}
+use borrow.Author.Needs.{needs}
 use Rattle.resolution.proofs.readability.set_read.Statement.{statement}
 use Rattle.resolution.proofs.readability.set_read.Tie as tie
 
@@ -8,10 +9,7 @@ set-read-spec =
     tie.close
     (tie.spec
     (λ c. search (set-read-laws, needs))
-    (λ c. search (set-read-laws, needs))
     (λ c κs. search (set-read-laws, needs))
-    (λ c. search (set-read-laws, needs))
-    (λ c. search (set-read-laws, needs))
     (λ c. search (set-read-laws, needs))
     (λ c. search (set-read-laws, needs))
     (λ c. search (set-read-laws, needs))

@@ -1,5 +1,6 @@
 use Rattle.resolution.proofs.readability.Rows.{set-row-laws}
 use borrow.Author.Needs.{needs}
+use borrow.Author.Needs.{needs}
 use Rattle.resolution.proofs.readability.set_row.Statement.{statement}
 use Rattle.resolution.proofs.readability.set_row.Tie as tie
 
@@ -8,20 +9,6 @@ set-row-spec =
     tie.close
     (tie.spec
     (λ c. search (set-row-laws, needs))
-    (λ c. search (set-row-laws, needs))
-    (λ c. search (set-row-laws, needs))
-    (λ c. search (set-row-laws, needs))
-    (λ c. search (set-row-laws, needs))
-    (λ c. search (set-row-laws, needs))
-    (λ c. search (set-row-laws, needs))
-    (λ c. search (set-row-laws, needs))
-    (λ c. search (set-row-laws, needs))
-    (λ c. search (set-row-laws, needs))
-    (λ c. search (set-row-laws, needs))
-    (λ c. search (set-row-laws, needs))
-    (λ c. search (set-row-laws, needs))
-    (λ c. search (set-row-laws, needs))
-    (λ c. search (set-row-laws, needs))
-    (λ c. search (set-row-laws, needs))
+    (λ c κs. search (set-row-laws, needs))
     (λ c. search (set-row-laws, needs))
     (λ c. search (set-row-laws, needs)))

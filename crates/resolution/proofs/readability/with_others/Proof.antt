@@ -8,7 +8,7 @@ abbrev Inv-loop : tie.InvT-loop
 Inv-loop members p out₀ k₀ out k = OthersAt (out₀ .words) (members .words) p (out .words) k
 
 abbrev μ-loop : tie.MeasureT-loop
-μ-loop members p out₀ k₀ out k = 256 - k
+μ-loop members p out₀ k₀ out k = 512 - k
 
 pub with-others-spec : {M : Type 1} → statement M
 with-others-spec =

@@ -1,5 +1,6 @@
 use Rattle.resolution.proofs.resolve.Laws.{resolve-laws}
 use borrow.Author.Needs.{needs}
+use borrow.Author.Needs.{needs}
 use Rattle.resolution.proofs.resolve.resolve.Statement.{statement}
 use Rattle.resolution.proofs.resolve.resolve.Tie as tie
 
@@ -10,10 +11,11 @@ resolve-spec =
     (λ c. search (resolve-laws, needs))
     (λ c κs. search (resolve-laws, needs))
     (λ c. search (resolve-laws, needs))
-    (λ c κs. search (resolve-laws, needs))
     (λ c. search (resolve-laws, needs))
     (λ c. search (resolve-laws, needs))
     (λ c. search (resolve-laws, needs))
-    (λ c κs. search (resolve-laws, needs))
+    (λ c. search (resolve-laws, needs))
+    (λ c κs. (search (resolve-laws, needs), (search (resolve-laws, needs), (search (resolve-laws, needs), search needs))))
+    (λ c. search (resolve-laws, needs))
     (λ c. search (resolve-laws, needs))
     (λ c. search (resolve-laws, needs)))

@@ -1,5 +1,6 @@
 use Rattle.resolution.proofs.resolve.Laws.{checked-laws}
 use borrow.Author.Needs.{needs}
+use borrow.Author.Needs.{needs}
 use Rattle.resolution.proofs.resolve.resolve_checked.Statement.{statement}
 use Rattle.resolution.proofs.resolve.resolve_checked.Tie as tie
 
@@ -12,9 +13,8 @@ resolve-checked-spec =
     (λ c. search (checked-laws, needs))
     (λ c κs. search (checked-laws, needs))
     (λ c. search (checked-laws, needs))
-    (λ c κs. search (checked-laws, needs))
     (λ c. search (checked-laws, needs))
-    (λ c κs. search (checked-laws, needs))
+    (λ c. search (checked-laws, needs))
     (λ c. search (checked-laws, needs))
     (λ c. search (checked-laws, needs))
     (λ c. search (checked-laws, needs)))

@@ -10,7 +10,7 @@ abbrev Inv-loop : tie.InvT-loop
 Inv-loop set request starts old phase index names needed order₀ packages₀ line₀ order packages line = RunAt set request starts old phase index names needed (lineAt order₀ line₀) (line₀ .head) order packages line
 
 abbrev μ-loop : tie.MeasureT-loop
-μ-loop set request starts old phase index names needed order₀ packages₀ line₀ order packages line = (257 - line .head) + one (isOpen (line .halt))
+μ-loop set request starts old phase index names needed order₀ packages₀ line₀ order packages line = (513 - line .head) + one (isOpen (line .halt))
 
 pub run-spec : {M : Type 1} → statement M
 run-spec =

@@ -10,7 +10,7 @@ abbrev Inv-loop : tie.InvT-loop
 Inv-loop set request starts old phase index names needed order₀ packages₀ table₀ line₀ bound₀ order packages table line bound = RoundsAt set request starts old phase index names needed order₀ packages₀ table₀ (lineAt order₀ line₀) order packages table bound line
 
 abbrev μ-loop : tie.MeasureT-loop
-μ-loop set request starts old phase index names needed order₀ packages₀ table₀ line₀ bound₀ order packages table line bound = (257 - line .head) + one (isDone (line .halt))
+μ-loop set request starts old phase index names needed order₀ packages₀ table₀ line₀ bound₀ order packages table line bound = (513 - line .head) + one (isDone (line .halt))
 
 pub rounds-spec : {M : Type 1} → statement M
 rounds-spec =

@@ -1,5 +1,6 @@
 use Rattle.resolution.proofs.row.Laws.{count-is}
 use borrow.Author.Needs.{needs}
+use borrow.Author.Needs.{needs}
 use Rattle.resolution.proofs.row.count.Statement.{statement}
 use Rattle.resolution.proofs.row.count.Tie as tie
 
@@ -7,15 +8,27 @@ pub count-spec : {M : Type 1} → statement M
 count-spec =
     tie.close
     (tie.spec
-    (λ c. search needs)
-    (λ c κs. search needs)
-    (λ c. search needs)
-    (λ c κs. search needs)
-    (λ c. search needs)
-    (λ c. search needs)
-    (λ c κs. search needs)
-    (λ c. search needs)
-    (λ c. search needs)
-    (λ c κs. search needs)
-    (λ c. search needs)
+    (λ c. search (count-is, needs))
+    (λ c κs. search (count-is, needs))
+    (λ c. search (count-is, needs))
+    (λ c κs. search (count-is, needs))
+    (λ c. search (count-is, needs))
+    (λ c. search (count-is, needs))
+    (λ c κs. search (count-is, needs))
+    (λ c. search (count-is, needs))
+    (λ c. search (count-is, needs))
+    (λ c κs. search (count-is, needs))
+    (λ c. search (count-is, needs))
+    (λ c. search (count-is, needs))
+    (λ c κs. search (count-is, needs))
+    (λ c. search (count-is, needs))
+    (λ c. search (count-is, needs))
+    (λ c κs. search (count-is, needs))
+    (λ c. search (count-is, needs))
+    (λ c. search (count-is, needs))
+    (λ c κs. search (count-is, needs))
+    (λ c. search (count-is, needs))
+    (λ c. search (count-is, needs))
+    (λ c κs. search (count-is, needs))
+    (λ c. search (count-is, needs))
     (λ c. search (count-is, needs)))

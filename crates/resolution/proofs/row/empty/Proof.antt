@@ -6,4 +6,4 @@ pub empty-spec : {M : Type 1} → statement M
 empty-spec =
     tie.close
     (tie.spec
-    (λ c. empty-zeros 4))
+    (λ c. empty-zeros 8))

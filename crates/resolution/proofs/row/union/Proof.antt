@@ -1,5 +1,6 @@
 use Rattle.resolution.proofs.row.Laws.{union-is}
 use borrow.Author.Needs.{needs}
+use borrow.Author.Needs.{needs}
 use Rattle.resolution.proofs.row.union.Statement.{statement}
 use Rattle.resolution.proofs.row.union.Tie as tie
 
@@ -7,12 +8,20 @@ pub union-spec : {M : Type 1} → statement M
 union-spec =
     tie.close
     (tie.spec
-    (λ c. search needs)
-    (λ c. search needs)
-    (λ c. search needs)
-    (λ c. search needs)
-    (λ c. search needs)
-    (λ c. search needs)
-    (λ c. search needs)
-    (λ c. search needs)
+    (λ c. search (union-is, needs))
+    (λ c. search (union-is, needs))
+    (λ c. search (union-is, needs))
+    (λ c. search (union-is, needs))
+    (λ c. search (union-is, needs))
+    (λ c. search (union-is, needs))
+    (λ c. search (union-is, needs))
+    (λ c. search (union-is, needs))
+    (λ c. search (union-is, needs))
+    (λ c. search (union-is, needs))
+    (λ c. search (union-is, needs))
+    (λ c. search (union-is, needs))
+    (λ c. search (union-is, needs))
+    (λ c. search (union-is, needs))
+    (λ c. search (union-is, needs))
+    (λ c. search (union-is, needs))
     (λ c. search (union-is, needs)))

@@ -6,10 +6,10 @@ use Rattle.resolve.proofs.names.in_order.Statement.{statement}
 use Rattle.resolve.proofs.names.in_order.Tie as tie
 
 abbrev Inv-loop : tie.InvT-loop
-Inv-loop set starts modules kind skip table₀ c₀ count₀ table c count = NamesAt set table₀ table count (c .at)
+Inv-loop set starts words kind skip table₀ c₀ count₀ table c count = NamesAt set table₀ table count (c .at)
 
 abbrev μ-loop : tie.MeasureT-loop
-μ-loop set starts modules kind skip table₀ c₀ count₀ table c count = length set - c .at
+μ-loop set starts words kind skip table₀ c₀ count₀ table c count = length set - c .at
 
 pub in-order-spec : {M : Type 1} → statement M
 in-order-spec =
