@@ -30,6 +30,11 @@ pub record Taken (s q : List ℕ) : Type 0 where
   pub modules : ℕ
   pub is : checkInputs s q .answer ≡ Set.Modules modules
 
+-- 4 (U12): fewer words are lent than a configuration has
+pub record ShortWords (s q ws : List ℕ) : Type 0 where
+  pub taken : Taken s q
+  pub short : length ws < wordCount
+
 -- the module at this position is observable and permitted, and something leads to it: it is in every closed set of demand 3
 pub record Reached (s q : List ℕ) (at : ℕ) : Type 1 where
   pub visible : isVisible (modules s) at ≡ true
@@ -76,15 +81,10 @@ pub record SharedPackage (s q : List ℕ) (p : Name) (owner second : ℕ) : Type
   pub first-has : memName p (moduleAt (modules s) owner .packages) ≡ true
   pub other-has : memName p (moduleAt (modules s) second .packages) ≡ true
 
--- 4 (U12): fewer words are lent than a configuration has
-pub record ShortWords (s q ws : List ℕ) : Type 0 where
-  pub taken : Taken s q
-  pub short : length ws < wordCount
-
 -- why `resolve` refuses with e, where ws are the lent words: 1, 2 and 3 are those of the check; 8, 9 and 10 do not occur
 pub data Cause (s q ws : List ℕ) : ModuleError → Type 1 where
   is-checked : (e : ModuleError) → numberOf e ≤ 3 → checkInputs s q .answer ≡ Set.Refused e → Cause s q ws e
+  is-short : ShortWords s q ws → Cause s q ws (OutputTooShort wordCount)
   is-absent : (i : Input) (at n : ℕ) → AbsentModule s q i (partOf s q i at n) → Cause s q ws (ModuleNotFound i at n)
   no-base : AbsentBase s q → Cause s q ws JavaBaseNotFound
-  is-short : ShortWords s q ws → Cause s q ws (OutputTooShort wordCount)
   is-shared : (at n owner second : ℕ) → SharedPackage s q (partOf s q Input.Set at n) owner second → Cause s q ws (SplitPackage at n owner second)

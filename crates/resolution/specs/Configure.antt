@@ -8,12 +8,18 @@ use lib.ListN.{drop}
 use Rattle.records.specs.Descriptor.{Descriptor}
 use Rattle.records.specs.Request.{requestOf, isPermitted}
 use Rattle.records.specs.Set.{modules}
-use Rattle.resolution.specs.Lists.{Mem}
+use Rattle.records.specs.Finder.{findName, isAt}
+use Rattle.resolution.specs.Lists.{Name, Mem, any}
 use Rattle.resolution.specs.Positions.{moduleAt, isVisible}
 use Rattle.resolution.specs.Row.{holds}
 use Rattle.resolution.specs.Configuration.{wordCount}
 use Rattle.resolution.specs.Resolver.{isOneOf}
 use Rattle.resolution.specs.Resolve.{configurationOf}
+
+-- among the names l of the set's modules, one of the names ns finds position i
+unfoldable pub isFoundBy : List Name → List Name → ℕ → Bool
+unfolding findName isAt any
+isFoundBy l ns i = any (λ (x : Name). isAt (findName l x 0) i) ns
 
 -- ws holds those of the positions ps that are below 512, and no other
 pub record MemberRow (ps ws : List ℕ) : Type 0 where

@@ -1,6 +1,6 @@
 -- What each function around the resolver returns.
 use mathlib.Core.Path.{_≡_, refl, sym, ap, _∙_, subst}
-use mathlib.Core.Bool.{Bool, true, false, _&&_, _||_, and-true, and-false, or-false, or-true}
+use mathlib.Core.Bool.{Bool, true, false, _&&_, _||_, and-false, or-false}
 use mathlib.Core.List.{List, [], _∷_, _++_, map}
 use mathlib.Core.Option.{some}
 use Prim.Native.Nat.{ℕ, zero, suc, _+_, _^_, _≤_, _<_}
@@ -13,108 +13,30 @@ use lib.Seq.{take-suc, length-take-le, getD-append-add, take-at}
 use borrow.Rule.Slice.PartMut.{putMid}
 use mir.Syntax.{w64}
 use mir.Val.{Fits}
-use borrow.Author.Tests.{eq-eqb, ne-eqb, eqb-true, lt-ltb, ltb-true, ltb-false}
+use borrow.Author.Tests.{ne-eqb, eqb-true, lt-ltb, ltb-true, ltb-false}
 use Rattle.records.specs.Descriptor.{Descriptor}
-use Rattle.records.specs.Request.{requestOf, isPermitted}
-use Rattle.records.specs.Set.{checkSet, nameAt, modules}
+use Rattle.records.specs.Request.{requestOf}
+use Rattle.records.specs.Set.{checkSet, modules}
 use Rattle.records.specs.Output.{written}
 use Rattle.records.specs.declared.set.SetAnswer.the-variants.{Modules}
 use Rattle.records.proofs.set.Blocks.{GoodSet, good-set}
 use Rattle.records.proofs.Logic.{by, true≠false}
-use Rattle.resolution.specs.Lists.{Name, Mem, any}
+use Rattle.resolution.specs.Lists.{Mem, any}
 use Rattle.resolution.specs.Resolution.{find, hasModule}
 use Rattle.resolution.specs.Positions.{moduleAt, isVisible}
 use Rattle.resolution.specs.Row.{holds, one, Empty, Added}
 use Rattle.resolution.specs.Graph.{ninth, unnamedEdge}
 use Rattle.resolution.specs.Configuration.{wordCount}
-use Rattle.resolution.specs.Known.{Limited}
-use Rattle.resolution.specs.Readability.{Members, ReadEdges, Holding}
+use Rattle.resolution.specs.Readability.{Members, ReadEdges}
 use Rattle.resolution.specs.Resolver.{isOneOf}
 use Rattle.resolution.specs.Resolve.{memberAt, edgeAt, unnamedAt, configurationOf}
-use Rattle.resolution.specs.Configure.{MemberRow, Configured, PermittedRow}
+use Rattle.resolution.specs.Configure.{MemberRow, Configured}
 use Rattle.resolution.proofs.Lists.{any-out, map-out}
 use Rattle.resolution.proofs.Positions.{index-at, has-at, visible-in, visible-found, visible-located}
-use Rattle.resolution.proofs.Sets.{set-length, starts-long, name-at-start}
+use Rattle.resolution.proofs.Sets.{set-length}
 use Rattle.resolution.proofs.Words.{words-are}
 use Rattle.resolution.proofs.ConfigurationWords.{rows-are, one-bit, words-written}
 use Rattle.resolution.proofs.resolver.Ends.{one-of-end}
-
--- ---- the permitted positions
-
-before : (j k : ℕ) → j < k + 1 → eqb j k ≡ false → j < k
-before j k b y = by (ltb j k) (λ z. ltb-true j k z) (λ z. true≠false (eq-eqb j k (omega (arith, ltb-false j k z))) y)
-
--- those below k are looked at
-pub record PermittedAt (s q : List ℕ) (n : ℕ) (ws : List ℕ) (k : ℕ) : Type 0 where
-  pub within : k ≤ n
-  pub so-far : (j : ℕ) → j < k → holds ws j ≡ isVisible (modules s) j && isPermitted (requestOf q) (moduleAt (modules s) j .name)
-  pub later : (j : ℕ) → k ≤ j → holds ws j ≡ false
-
-pub permitted-start : (s q : List ℕ) (n : ℕ) (ws : List ℕ) → Empty ws → PermittedAt s q n ws 0
-permitted-start s q n ws h = record { within = omega arith; so-far = λ j l. absurd (omega arith); later = λ j l. h .none j }
-
-pub permitted-end : (s q : List ℕ) (n : ℕ) (ws : List ℕ) (k : ℕ) → PermittedAt s q n ws k → n ≤ k → PermittedRow s q n ws
-permitted-end s q n ws k h l = record { past = λ i b. h .later i (omega (arith, h .within)); each = λ i b. h .so-far i (omega arith) }
-
-module _ (s q : List ℕ) (n : ℕ) (t : List ℕ) (e : checkSet s ≡ record { answer = Modules n; starts = t })
-    (ws : List ℕ) (k : ℕ) (h : PermittedAt s q n ws k) (l : k < n) where
-  -- the test of position k
-  passes : Bool
-  passes = isVisible (modules s) k && isPermitted (requestOf q) (moduleAt (modules s) k .name)
-
-  stays : passes ≡ false → PermittedAt s q n ws (k + 1)
-  unfolding passes
-  stays f = record {
-    within = omega arith;
-    so-far = λ j b. by (eqb j k)
-        (λ y. let i : j ≡ k = eqb-true j k y in
-        subst (λ (z : ℕ). holds ws z ≡ isVisible (modules s) z && isPermitted (requestOf q) (moduleAt (modules s) z .name)) (sym i) (h .later k (omega arith) ∙ sym f))
-        (λ y. h .so-far j (before j k b y));
-    later = λ j b. h .later j (omega arith);
-  }
-
-  grows : (after : List ℕ) → passes ≡ true → Added ws k after → PermittedAt s q n after (k + 1)
-  unfolding passes
-  grows after f a = record {
-    within = omega arith;
-    so-far = λ j b. added j ∙ by (eqb j k)
-        (λ y. let i : j ≡ k = eqb-true j k y in
-        rw y (or-true (holds ws j)) ∙ sym f ∙ ap (λ (z : ℕ). isVisible (modules s) z && isPermitted (requestOf q) (moduleAt (modules s) z .name)) (sym i))
-        (λ y. rw y (or-false (holds ws j)) ∙ h .so-far j (before j k b y));
-    later = λ j b. added j ∙ rw (ne-eqb j k (λ i. absurd (omega arith))) (or-false (holds ws j)) ∙ h .later j (omega arith);
-  }
-    where
-      added : (j : ℕ) → holds after j ≡ holds ws j || eqb j k
-      added j = a .below (omega (arith, good-set s n t e .few)) j
-
-  module _ (row : List ℕ) (hr : Holding row (isVisible (modules s))) (v : Bool) (ev : v ≡ holds row k) where
-    seen : v ≡ isVisible (modules s) k
-    seen = ev ∙ hr .each k
-
-    pub permitted-hidden : v ≡ false → PermittedAt s q n ws (k + 1)
-    unfolding passes
-    permitted-hidden h = stays (rw (← seen, h))
-
-    module _ (x : Name) (ex : x ≡ nameAt s (getD t k 0)) (r : Bool) (er : r ≡ isPermitted (requestOf q) x) where
-      here : v ≡ true → passes ≡ r
-      unfolding passes
-      here h = rw (← seen, h) (sym (er ∙ ap (isPermitted (requestOf q)) (ex ∙ name-at-start s n t e k l)))
-
-      pub permitted-not : v ≡ true → r ≡ false → PermittedAt s q n ws (k + 1)
-      permitted-not h g = stays (here h ∙ g)
-
-      pub permitted-more : (after : List ℕ) → v ≡ true → r ≡ true → Added ws k after → PermittedAt s q n after (k + 1)
-      permitted-more after h g a = grows after (here h ∙ g) a
-
--- without an LM every visible one is permitted
-pub permitted-free : (s q : List ℕ) (n : ℕ) (t : List ℕ) → checkSet s ≡ record { answer = Modules n; starts = t } → (ws : List ℕ) → Holding ws (isVisible (modules s))
-    → (r : Bool) → Limited q r → r ≡ false → PermittedRow s q n ws
-permitted-free s q n t e ws h r y f = record {
-  past = λ i l. h .each i ∙ by (isVisible (modules s) i) (λ z. absurd (omega (arith, visible-in (modules s) i z, set-length s n t (good-set s n t e)))) (λ z. z);
-  each = λ i l. h .each i ∙ sym (rw (y .free f (moduleAt (modules s) i .name)) (and-true (isVisible (modules s) i)));
-}
-
-pub ruleset permitted-laws = (permitted-start, permitted-end, permitted-free, starts-long, permitted-hidden, permitted-not, permitted-more)
 
 -- ---- the positions as a row
 

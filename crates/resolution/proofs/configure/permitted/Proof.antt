@@ -1,4 +1,4 @@
-use Rattle.resolution.proofs.configure.Laws.{permitted-laws}
+use Rattle.resolution.proofs.configure.Limit.{permitted-laws}
 use borrow.Author.Needs.{needs}
 use Rattle.resolution.proofs.configure.permitted.Statement.{statement}
 use Rattle.resolution.proofs.configure.permitted.Tie as tie
@@ -8,7 +8,10 @@ permitted-spec =
     tie.close
     (tie.spec
     (λ c κs. search (permitted-laws, needs))
+    (λ c. search (permitted-laws, needs))
     (λ c κs. search (permitted-laws, needs))
+    (λ c κs. search (permitted-laws, needs))
+    (λ c. search (permitted-laws, needs))
     (λ c κs. search (permitted-laws, needs))
     (λ c. search (permitted-laws, needs))
     (λ c. search (permitted-laws, needs)))
