@@ -30,6 +30,7 @@ use records::set::block;
 use records::set::check_set_with;
 use records::sorted::INDEX_LENGTH;
 use records::sorted::find_in;
+use resolution::configuration::WORDS;
 use resolution::configuration::reads;
 use resolution::configuration::reads_unnamed;
 
@@ -269,8 +270,8 @@ pub fn check_access(
     match answer {
         SetAnswer::Refused(e) => AccessAnswer::Refused(e),
         SetAnswer::Modules(n) => {
-            if words.len() < 4616 {
-                return AccessAnswer::Refused(ModuleError::OutputTooShort(4616));
+            if words.len() < WORDS {
+                return AccessAnswer::Refused(ModuleError::OutputTooShort(WORDS));
             }
             let starts = checked.starts;
             let found = member(set, &starts, n, &index, words, target);
@@ -291,8 +292,8 @@ pub fn can_read(set: &[u8], words: &[u64], from: &[u8], to: &[u8]) -> ReadAnswer
     match answer {
         SetAnswer::Refused(e) => ReadAnswer::Refused(e),
         SetAnswer::Modules(n) => {
-            if words.len() < 4616 {
-                return ReadAnswer::Refused(ModuleError::OutputTooShort(4616));
+            if words.len() < WORDS {
+                return ReadAnswer::Refused(ModuleError::OutputTooShort(WORDS));
             }
             if same(from, to) {
                 return ReadAnswer::Reads(true);

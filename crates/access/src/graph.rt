@@ -21,6 +21,7 @@ use records::set::SetAnswer;
 use records::set::check_set_with;
 use records::sorted::INDEX_LENGTH;
 use records::sorted::find_in;
+use resolution::configuration::WORDS;
 use resolution::configuration::members;
 use resolution::configuration::reads;
 use resolution::configuration::reads_unnamed;
@@ -244,8 +245,8 @@ pub fn readers_of(set: &[u8], words: &[u64], name: &[u8]) -> GraphAnswer
     match answer {
         SetAnswer::Refused(e) => refuse(e),
         SetAnswer::Modules(n) => {
-            if words.len() < 4616 {
-                return refuse(ModuleError::OutputTooShort(4616));
+            if words.len() < WORDS {
+                return refuse(ModuleError::OutputTooShort(WORDS));
             }
             let starts = checked.starts;
             readers_in(set, &starts, n, &index, words, name)
@@ -287,8 +288,8 @@ pub fn transitive_reads(set: &[u8], words: &[u64], name: &[u8]) -> GraphAnswer
     match answer {
         SetAnswer::Refused(e) => refuse(e),
         SetAnswer::Modules(n) => {
-            if words.len() < 4616 {
-                return refuse(ModuleError::OutputTooShort(4616));
+            if words.len() < WORDS {
+                return refuse(ModuleError::OutputTooShort(WORDS));
             }
             let starts = checked.starts;
             reads_in(set, &starts, n, &index, words, name)

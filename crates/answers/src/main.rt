@@ -46,6 +46,7 @@ use records::bytes::tail;
 use records::error::ModuleError;
 use records::jar::Written;
 use records::jar::automatic_from_jar_name;
+use resolution::configuration::WORDS;
 use resolution::resolve::Outcome;
 
 // The words are those of the stored members and rows, and one behind them that is 7.
@@ -60,7 +61,7 @@ fn expect_words(words: &[u64], s: &[u8]) {
 fn expect_edges(words: &[u64], rows: &[u8])
     requires { ⌜ 4616 ≤ length (now words) ⌝ }
 {
-    let mut made = [0u64; 4616];
+    let mut made = [0u64; WORDS];
     say(b" reads");
     number(add_rows(&mut made, rows));
     expect(is_reads(words, &made), b"edges");
@@ -126,7 +127,7 @@ fn configuration_case(s: &[u8]) -> &[u8] {
     let u = behind(t);
     let v = behind(u);
     say(b" asked");
-    let mut words = [0u64; 4616];
+    let mut words = [0u64; WORDS];
     put_rows(&mut words, text(u));
     ask(text(s), text(t), &words, text(v));
     behind(v)

@@ -14,6 +14,7 @@ use records::error::Input;
 use records::error::ModuleError;
 use records::request::check;
 use records::set::SetAnswer;
+use resolution::configuration::WORDS;
 
 // A refusal: its number, the input that it points into, and its particulars.
 pub struct Refusal {
@@ -130,7 +131,7 @@ pub fn expect_needed(r: Refusal, stored: usize, s: &[u8]) {
         }
     }
     expect(r.number == 4, b"number with too few words");
-    expect(r.at == 4616, b"words needed");
+    expect(r.at == WORDS, b"words needed");
 }
 
 // The check ends with a refusal 1 to 3, and takes what is refused later.
@@ -145,7 +146,7 @@ pub fn expect_check(set: &[u8], request: &[u8], stored: usize, s: &[u8]) {
 
 // So does a question, also of a module about itself.
 pub fn expect_question(set: &[u8], request: &[u8], stored: usize, s: &[u8]) {
-    let words = [0u64; 4616];
+    let words = [0u64; WORDS];
     match check_access(set, request, &words, AccessKind::Access, b"a", b"a", b"") {
         AccessAnswer::Verdict(_) => expect(3 < stored, b"question"),
         AccessAnswer::Refused(e) => expect_refusal(refusal_of(e), stored, s),

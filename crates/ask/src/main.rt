@@ -7,6 +7,7 @@ use access::access::check_access;
 use libc::STDERR_FILENO;
 use libc::STDOUT_FILENO;
 use messages::tell_absent;
+use resolution::configuration::WORDS;
 use resolution::resolve::Outcome;
 
 fn say(text: &[u8]) {
@@ -56,7 +57,7 @@ fn ask(set: &[u8], request: &[u8], words: &[u64], asker: &[u8], target: &[u8], p
 }
 
 fn answer<'a>(set: &'a [u8], request: &'a [u8], asker: &[u8], target: &[u8], pkg: &[u8]) {
-    let mut words = [0u64; 4616];
+    let mut words = [0u64; WORDS];
     let outcome = resolution::resolve::resolve(set, request, &mut words);
     match outcome {
         Outcome::Accepted => ask(set, request, &words, asker, target, pkg),

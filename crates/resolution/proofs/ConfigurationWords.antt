@@ -22,7 +22,7 @@ use Rattle.resolution.specs.Configuration.{wordCount, withWords, memberW
 use Rattle.resolution.proofs.WordBits.{holds-words, words-length}
 use Rattle.resolution.proofs.Words.{words-are}
 use Rattle.resolution.proofs.configuration.Laws.{take-past, member-none, edge-none, unnamed-none}
-use Rattle.resolution.proofs.reach.Edges.{edge-is, edge-past}
+use Rattle.resolution.proofs.graph.Edges.{edge-is, edge-past}
 use Rattle.resolution.proofs.row.Bits.{bit-low, bit-zero}
 use Rattle.resolution.proofs.row.Counts.{one-le}
 

@@ -1,3 +1,3 @@
-pub mod Edges
 pub mod Laws
+pub mod Next
 pub mod Search

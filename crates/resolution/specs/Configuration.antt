@@ -11,7 +11,7 @@ use Rattle.records.specs.declared.error.ModuleError.the-variants.{OutputTooShor
 use Rattle.records.specs.declared.set.SetAnswer.{SetAnswer}
 use Rattle.records.specs.declared.set.SetAnswer.the-variants as Set
 use Rattle.resolution.specs.Row.{holds, one, words}
-use Rattle.resolution.specs.Graph.{edge, unnamedEdge}
+use Rattle.resolution.specs.Graph.{rowsLength, edge, unnamedEdge}
 
 -- "4,616 words in all"
 abbrev pub wordCount : ℕ
@@ -35,7 +35,7 @@ memberWords ws = take 8 ws
 
 -- "then for each module eight for its edges and one": 512 rows of nine
 unfoldable pub rowWords : List ℕ → List ℕ
-rowWords ws = take 4608 (drop 8 ws)
+rowWords ws = take rowsLength (drop 8 ws)
 
 -- position i is among the members
 unfoldable pub memberBit : List ℕ → ℕ → Bool

@@ -9,6 +9,10 @@ use lib.Dec.{eqb, ltb}
 use lib.ListN.{getD}
 use Rattle.resolution.specs.Row.{bit, holds, countBelow}
 
+-- 512 rows of nine words
+abbrev pub rowsLength : ℕ
+rowsLength = 4608
+
 -- there is an edge from i to j: bit j of row i
 unfoldable pub edge : List ℕ → ℕ → ℕ → Bool
 edge g i j = ltb j 512 && bit (getD g (i * 9 + j / 64) 0) (j % 64)

@@ -11,6 +11,12 @@ use crate::row::empty;
 use crate::word::word_has;
 use crate::word::word_with;
 
+// How many words a configuration has.
+pub const WORDS: usize = 4616;
+
+// How many of them stand for the members, ahead of the rows.
+pub const MEMBER_WORDS: usize = 8;
+
 // Word `at`, 0 where there is none.
 fn word(words: &[u64], at: usize) -> u64
     ensures { λ r. ⌜ r ≡ getD (now (words .entry)) at 0 ⌝ }

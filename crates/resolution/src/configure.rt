@@ -11,7 +11,9 @@ ghost use Rattle.resolution.specs.Lookup.{Lookup};
 ghost use Rattle.resolution.specs.Readability.{tableNames, WithMore, Holding};
 ghost use Rattle.resolution.specs.Configuration.{wordCount};
 ghost use Rattle.resolution.specs.Configure.{isFoundBy, MemberRow, Configured, PermittedRow};
-use crate::readability::put_row;
+use crate::configuration::MEMBER_WORDS;
+use crate::configuration::WORDS;
+use crate::graph::put_row;
 use crate::readability::read_edges;
 use crate::row::Row;
 use crate::row::empty;
@@ -141,6 +143,6 @@ pub fn configure(
         count,
         index,
         members,
-        &mut words[8..4616],
+        &mut words[MEMBER_WORDS..WORDS],
     );
 }

@@ -3,6 +3,7 @@ pub mod absent;
 pub mod configuration;
 mod configure;
 mod filter;
+mod graph;
 mod hash;
 mod limits;
 mod modules;

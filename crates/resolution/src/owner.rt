@@ -5,6 +5,7 @@ ghost use Rattle.records.specs.Set.{blockAt};
 ghost use Rattle.resolution.specs.Lookup.{Lookup, ownsBy};
 ghost use Rattle.resolution.specs.PackageOwner.{findModuleForPackage};
 ghost use Rattle.resolution.specs.Readability.{tableNames};
+use crate::configuration::WORDS;
 use crate::configuration::contains;
 use records::descriptor::has_package;
 use records::descriptor::name;
@@ -56,8 +57,8 @@ pub fn find_module_for_package(set: &[u8], words: &[u64], pkg: &[u8]) -> Owner
     match answer {
         SetAnswer::Refused(e) => Owner::Refused(e),
         SetAnswer::Modules(n) => {
-            if words.len() < 4616 {
-                return Owner::Refused(ModuleError::OutputTooShort(4616));
+            if words.len() < WORDS {
+                return Owner::Refused(ModuleError::OutputTooShort(WORDS));
             }
             let starts = checked.starts;
             let mut i: usize = 0;

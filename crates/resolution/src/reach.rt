@@ -1,9 +1,11 @@
 // What modules reach by edges, in a graph of 512 rows of nine words, of which the first eight are its edges.
 ghost use mathlib.Core.Path.{_≡_};
-ghost use Prim.Native.Nat.{_<_, _≤_};
+ghost use Prim.Native.Nat.{_≤_};
 ghost use lib.ListN.{length};
 ghost use Rattle.resolution.specs.Row.{holds, FirstFrom};
-ghost use Rattle.resolution.specs.Graph.{lacks, Lacking, AnyLacking, Collected, ReachedFrom};
+ghost use Rattle.resolution.specs.Graph.{rowsLength, lacks, Collected, ReachedFrom};
+use crate::graph::any_lacking;
+use crate::graph::lacking;
 use crate::row::Row;
 use crate::row::with;
 use crate::word::next_one;
@@ -26,52 +28,10 @@ pub fn next_in(row: Row, k: usize) -> usize
     512
 }
 
-// The positions that an edge from m leads to and that out does not hold.
-fn lacking(g: &[u64], m: usize, out: Row) -> Row
-    requires { ⌜ length (now g) ≡ 4608 ⌝ }
-    requires { ⌜ m < 512 ⌝ }
-    ensures { λ r. ⌜ Lacking (now (g .entry)) m (out .words) (r .words) ⌝ }
-{
-    let x = out.words;
-    let at = m * 9;
-    let words = [
-        g[at] & !x[0],
-        g[at + 1] & !x[1],
-        g[at + 2] & !x[2],
-        g[at + 3] & !x[3],
-        g[at + 4] & !x[4],
-        g[at + 5] & !x[5],
-        g[at + 6] & !x[6],
-        g[at + 7] & !x[7],
-    ];
-    Row { words }
-}
-
-// There is such a position. False only where there is none.
-fn any_lacking(g: &[u64], m: usize, out: Row) -> bool
-    requires { ⌜ length (now g) ≡ 4608 ⌝ }
-    ensures { λ r. ⌜ AnyLacking (now (g .entry)) m (out .words) r ⌝ }
-{
-    if m < 512 {
-        let x = out.words;
-        let at = m * 9;
-        return (g[at] & !x[0])
-            | (g[at + 1] & !x[1])
-            | (g[at + 2] & !x[2])
-            | (g[at + 3] & !x[3])
-            | (g[at + 4] & !x[4])
-            | (g[at + 5] & !x[5])
-            | (g[at + 6] & !x[6])
-            | (g[at + 7] & !x[7])
-            != 0;
-    }
-    false
-}
-
 // The first position from k on that an edge from m leads to and that out does not hold, 512 where there is none: whether
 // there is any is one test of all words.
 fn next_edge(g: &[u64], m: usize, out: Row, k: usize) -> usize
-    requires { ⌜ length (now g) ≡ 4608 ⌝ }
+    requires { ⌜ length (now g) ≡ rowsLength ⌝ }
     requires { ⌜ k ≤ 512 ⌝ }
     ensures { λ r. ⌜ FirstFrom (lacks (now (g .entry)) m (out .words)) k 512 r ⌝ }
 {
@@ -85,7 +45,7 @@ fn next_edge(g: &[u64], m: usize, out: Row, k: usize) -> usize
 
 // The marks, and what m reaches by positions that they do not hold.
 pub fn collect_transitive_reads(g: &[u64], m: usize, marks: Row) -> Row
-    requires { ⌜ length (now g) ≡ 4608 ⌝ }
+    requires { ⌜ length (now g) ≡ rowsLength ⌝ }
     ensures { λ r. ⌜ Collected (now (g .entry)) m 512 (marks .words) (r .words) ⌝ }
 {
     let mut out = marks;
@@ -106,7 +66,7 @@ pub fn collect_transitive_reads(g: &[u64], m: usize, marks: Row) -> Row
 
 // The row, and exactly what its positions reach by one edge or more.
 pub fn reachable_from(g: &[u64], from: Row) -> Row
-    requires { ⌜ length (now g) ≡ 4608 ⌝ }
+    requires { ⌜ length (now g) ≡ rowsLength ⌝ }
     ensures { λ r. ⌜ ReachedFrom (now (g .entry)) (from .words) (r .words) ⌝ }
 {
     let mut out = from;

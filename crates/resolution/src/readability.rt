@@ -1,21 +1,24 @@
 // Who reads whom among the members: the read edges, over positions in the set.
 ghost use mathlib.Core.Path.{_≡_};
 ghost use mathlib.Core.Bool.{true, false};
-ghost use Prim.Native.Nat.{_+_, _≤_, _<_};
+ghost use Prim.Native.Nat.{_<_};
 ghost use lib.ListN.{length, replicate};
 ghost use Rattle.records.specs.Name.{javaBase};
-ghost use Rattle.records.specs.Output.{written};
 ghost use Rattle.records.specs.Descriptor.{descriptorOf, requirementOf};
 ghost use Rattle.records.specs.Request.{readOf, requestOf};
 ghost use Rattle.records.specs.Set.{checkSet, blockAt};
 ghost use Rattle.records.specs.Finder.{findName};
 ghost use Rattle.records.specs.declared.set.SetAnswer.the-variants.{Modules};
 ghost use Rattle.resolution.specs.Row.{holds};
-ghost use Rattle.resolution.specs.Graph.{Successors};
+ghost use Rattle.resolution.specs.Graph.{rowsLength};
 ghost use Rattle.resolution.specs.Lookup.{Lookup};
-ghost use Rattle.records.specs.Finder.{isAt};
-ghost use Rattle.resolution.specs.Readability.{tableNames, memberOf, isRequired, requiredAt, directAt, directFrom, baseOf, edgesOf, othersAt, unnamedFrom, edgeFrom, Below, ModuleReads, WithMore, Holding, WithEdges, WithUnnamed, RowSet, TransitiveGraph, DirectRows, ReadRows, ReadAdded, ReadsAdded, ReadEdges};
-use crate::configuration::add_read;
+ghost use Rattle.resolution.specs.Readability.{tableNames, memberOf, isRequired, requiredAt, directAt, directFrom, baseOf, edgesOf, othersAt, edgeFrom, Below, ModuleReads, WithMore, Holding, WithEdges, TransitiveGraph, DirectRows, ReadRows, ReadAdded, ReadsAdded, ReadEdges};
+use crate::graph::ROWS;
+use crate::graph::clear;
+use crate::graph::row_at;
+use crate::graph::set_edge;
+use crate::graph::set_row;
+use crate::graph::set_unnamed;
 use crate::reach::next_in;
 use crate::reach::reachable_from;
 use crate::row::Row;
@@ -97,8 +100,8 @@ fn set_requirement(
     requires { ⌜ Lookup (now set) (now starts) count (now index) ⌝ }
     requires { ⌜ base ≡ memberOf (members .words) (findName (tableNames (now set) (now starts) count) javaBase 0) ⌝ }
     requires { ⌜ p < 512 ⌝ }
-    requires { ⌜ length (now graph) ≡ 4608 ⌝ }
-    requires { ⌜ length (now rows) ≡ 4608 ⌝ }
+    requires { ⌜ length (now graph) ≡ rowsLength ⌝ }
+    requires { ⌜ length (now rows) ≡ rowsLength ⌝ }
     ensures { λ _. ⌜ WithEdges (now (graph .entry)) (edgesOf p (isRequired (tableNames (now (set .entry)) (now (starts .entry)) count) (members .words) true (requirementOf (now (body .entry))))) (now (graph .exit)) ⌝ }
     ensures { λ _. ⌜ WithEdges (now (rows .entry)) (edgesOf p (isRequired (tableNames (now (set .entry)) (now (starts .entry)) count) (members .words) false (requirementOf (now (body .entry))))) (now (rows .exit)) ⌝ }
 {
@@ -125,8 +128,8 @@ fn set_requirements(
     requires { ⌜ Lookup (now set) (now starts) count (now index) ⌝ }
     requires { ⌜ base ≡ memberOf (members .words) (findName (tableNames (now set) (now starts) count) javaBase 0) ⌝ }
     requires { ⌜ p < 512 ⌝ }
-    requires { ⌜ length (now graph) ≡ 4608 ⌝ }
-    requires { ⌜ length (now rows) ≡ 4608 ⌝ }
+    requires { ⌜ length (now graph) ≡ rowsLength ⌝ }
+    requires { ⌜ length (now rows) ≡ rowsLength ⌝ }
     ensures { λ _. ⌜ WithEdges (now (graph .entry)) (edgesOf p (requiredAt (tableNames (now (set .entry)) (now (starts .entry)) count) (members .words) true (descriptorOf (now (block .entry)) .requires))) (now (graph .exit)) ⌝ }
     ensures { λ _. ⌜ WithEdges (now (rows .entry)) (edgesOf p (requiredAt (tableNames (now (set .entry)) (now (starts .entry)) count) (members .words) false (descriptorOf (now (block .entry)) .requires))) (now (rows .exit)) ⌝ }
 {
@@ -160,7 +163,7 @@ fn set_requirements(
 fn set_base(block: &[u8], base: Found, p: usize, rows: &mut [u64])
     requires { ⌜ Below base ⌝ }
     requires { ⌜ p < 512 ⌝ }
-    requires { ⌜ length (now rows) ≡ 4608 ⌝ }
+    requires { ⌜ length (now rows) ≡ rowsLength ⌝ }
     ensures { λ _. ⌜ WithEdges (now (rows .entry)) (edgesOf p (baseOf (descriptorOf (now (block .entry))) base)) (now (rows .exit)) ⌝ }
 {
     if same(name(block), b"java.base") {
@@ -185,8 +188,8 @@ fn set_direct_row(
     requires { ⌜ Lookup (now set) (now starts) count (now index) ⌝ }
     requires { ⌜ base ≡ memberOf (members .words) (findName (tableNames (now set) (now starts) count) javaBase 0) ⌝ }
     requires { ⌜ p < 512 ⌝ }
-    requires { ⌜ length (now graph) ≡ 4608 ⌝ }
-    requires { ⌜ length (now rows) ≡ 4608 ⌝ }
+    requires { ⌜ length (now graph) ≡ rowsLength ⌝ }
+    requires { ⌜ length (now rows) ≡ rowsLength ⌝ }
     ensures { λ _. ⌜ WithEdges (now (graph .entry)) (edgesOf p (requiredAt (tableNames (now (set .entry)) (now (starts .entry)) count) (members .words) true (descriptorOf (blockAt (now (set .entry)) (now (starts .entry)) p) .requires))) (now (graph .exit)) ⌝ }
     ensures { λ _. ⌜ WithEdges (now (rows .entry)) (edgesOf p (directAt (tableNames (now (set .entry)) (now (starts .entry)) count) (members .words) (descriptorOf (blockAt (now (set .entry)) (now (starts .entry)) p)))) (now (rows .exit)) ⌝ }
 {
@@ -223,7 +226,7 @@ fn read_row(
     direct: Row,
     p: usize,
 ) -> Row
-    requires { ⌜ length (now graph) ≡ 4608 ⌝ }
+    requires { ⌜ length (now graph) ≡ rowsLength ⌝ }
     requires { ⌜ Holding (direct .words) (directFrom (tableNames (now set) (now starts) count) (members .words) (holds (members .words) p) (descriptorOf (blockAt (now set) (now starts) p))) ⌝ }
     ensures { λ r. ⌜ ModuleReads (tableNames (now (set .entry)) (now (starts .entry)) count) (members .words) (now (graph .entry)) (descriptorOf (blockAt (now (set .entry)) (now (starts .entry)) p)) p (holds (r .words)) ⌝ }
 {
@@ -235,48 +238,6 @@ fn read_row(
         return row;
     }
     empty()
-}
-
-// Row i of the graph.
-fn row_at(g: &[u64], i: usize) -> Row
-    requires { ⌜ length (now g) ≡ 4608 ⌝ }
-    requires { ⌜ i < 512 ⌝ }
-    ensures { λ r. ⌜ Successors (now (g .entry)) i (r .words) ⌝ }
-{
-    let at = i * 9;
-    let words = [
-        g[at],
-        g[at + 1],
-        g[at + 2],
-        g[at + 3],
-        g[at + 4],
-        g[at + 5],
-        g[at + 6],
-        g[at + 7],
-    ];
-    Row { words }
-}
-
-// Writes the eight words of a row at `at`.
-pub fn put_row(words: &mut [u64], at: usize, row: Row)
-    requires { ⌜ at + 8 ≤ length (now words) ⌝ }
-    ensures { λ _. ⌜ now (words .exit) ≡ written (now (words .entry)) at (row .words) ⌝ }
-{
-    let x = row.words;
-    let mut k: usize = 0;
-    while k < 8 {
-        words[at + k] = x[k];
-        k += 1;
-    }
-}
-
-// The edges of row i anew.
-fn set_row(g: &mut [u64], i: usize, row: Row)
-    requires { ⌜ length (now g) ≡ 4608 ⌝ }
-    requires { ⌜ i < 512 ⌝ }
-    ensures { λ _. ⌜ RowSet (now (g .entry)) i (row .words) (now (g .exit)) ⌝ }
-{
-    put_row(g, i * 9, row);
 }
 
 // The graph of the transitive requirements between members, and in `rows` what each member reads directly. All words are 0 before.
@@ -291,8 +252,8 @@ fn set_direct(
     rows: &mut [u64],
 )
     requires { ⌜ Lookup (now set) (now starts) count (now index) ⌝ }
-    requires { ⌜ now graph ≡ replicate 4608 0 ⌝ }
-    requires { ⌜ now rows ≡ replicate 4608 0 ⌝ }
+    requires { ⌜ now graph ≡ replicate rowsLength 0 ⌝ }
+    requires { ⌜ now rows ≡ replicate rowsLength 0 ⌝ }
     ensures { λ _. ⌜ TransitiveGraph (now (set .entry)) (now (starts .entry)) count (members .words) (now (graph .exit)) ⌝ }
     ensures { λ _. ⌜ DirectRows (now (set .entry)) (now (starts .entry)) count (members .words) (now (rows .exit)) ⌝ }
 {
@@ -317,8 +278,8 @@ fn set_reads(
     graph: &[u64],
     rows: &mut [u64],
 )
-    requires { ⌜ length (now graph) ≡ 4608 ⌝ }
-    requires { ⌜ length (now rows) ≡ 4608 ⌝ }
+    requires { ⌜ length (now graph) ≡ rowsLength ⌝ }
+    requires { ⌜ length (now rows) ≡ rowsLength ⌝ }
     requires { ⌜ DirectRows (now set) (now starts) count (members .words) (now rows) ⌝ }
     ensures { λ _. ⌜ ReadRows (now (set .entry)) (now (starts .entry)) count (members .words) (now (graph .entry)) (now (rows .exit)) ⌝ }
 {
@@ -335,45 +296,11 @@ fn set_reads(
     }
 }
 
-// The edge of an AR to ALL-UNNAMED: the ninth word of its source's row.
-fn set_unnamed(source: Found, target: &[u8], rows: &mut [u64])
-    requires { ⌜ Below source ⌝ }
-    requires { ⌜ length (now rows) ≡ 4608 ⌝ }
-    ensures { λ _. ⌜ WithUnnamed (now (rows .entry)) (unnamedFrom source (now (target .entry))) (now (rows .exit)) ⌝ }
-{
-    if same(target, b"ALL-UNNAMED") {
-        match source {
-            Found::At(i) => {
-                let at = i * 9 + 8;
-                rows[at] = 1;
-            }
-            Found::Nothing => {}
-        }
-    }
-}
-
-// The edge from i to what is found: the row of i is lent.
-fn set_edge(i: usize, target: Found, rows: &mut [u64])
-    requires { ⌜ i < 512 ⌝ }
-    requires { ⌜ Below target ⌝ }
-    requires { ⌜ length (now rows) ≡ 4608 ⌝ }
-    ensures { λ _. ⌜ WithEdges (now (rows .entry)) (edgesOf i (isAt target)) (now (rows .exit)) ⌝ }
-{
-    match target {
-        Found::At(j) => {
-            let at = i * 9;
-            let end = at + 8;
-            add_read(&mut rows[at..end], j);
-        }
-        Found::Nothing => {}
-    }
-}
-
 // The edge of an AR.
 fn set_read(source: Found, target: Found, rows: &mut [u64])
     requires { ⌜ Below source ⌝ }
     requires { ⌜ Below target ⌝ }
-    requires { ⌜ length (now rows) ≡ 4608 ⌝ }
+    requires { ⌜ length (now rows) ≡ rowsLength ⌝ }
     ensures { λ _. ⌜ WithEdges (now (rows .entry)) (edgeFrom source target) (now (rows .exit)) ⌝ }
 {
     match source {
@@ -395,7 +322,7 @@ fn add_override(
     rows: &mut [u64],
 )
     requires { ⌜ Lookup (now set) (now starts) count (now index) ⌝ }
-    requires { ⌜ length (now rows) ≡ 4608 ⌝ }
+    requires { ⌜ length (now rows) ≡ rowsLength ⌝ }
     ensures { λ _. ⌜ ReadAdded (tableNames (now (set .entry)) (now (starts .entry)) count) (members .words) (readOf (now (body .entry))) (now (rows .entry)) (now (rows .exit)) ⌝ }
 {
     let target = name_of(after_name(body));
@@ -416,7 +343,7 @@ fn add_reads(
     rows: &mut [u64],
 )
     requires { ⌜ Lookup (now set) (now starts) count (now index) ⌝ }
-    requires { ⌜ length (now rows) ≡ 4608 ⌝ }
+    requires { ⌜ length (now rows) ≡ rowsLength ⌝ }
     ensures { λ _. ⌜ ReadsAdded (tableNames (now (set .entry)) (now (starts .entry)) count) (members .words) (requestOf (now (request .entry)) .addReads) (now (rows .entry)) (now (rows .exit)) ⌝ }
 {
     let mut c = Cursor { at: 0 };
@@ -434,18 +361,6 @@ fn add_reads(
     }
 }
 
-// Every word 0.
-fn clear(rows: &mut [u64])
-    requires { ⌜ length (now rows) ≡ 4608 ⌝ }
-    ensures { λ _. ⌜ now (rows .exit) ≡ replicate 4608 0 ⌝ }
-{
-    let mut k: usize = 0;
-    while k < 4608 {
-        rows[k] = 0;
-        k += 1;
-    }
-}
-
 // The rows of the members anew, where they lie: cleared once, then what each member reads. All other rows are 0.
 pub fn read_edges(
     set: &[u8],
@@ -458,10 +373,10 @@ pub fn read_edges(
 )
     requires { ⌜ checkSet (now set) ≡ record { answer = Modules count; starts = now starts } ⌝ }
     requires { ⌜ Lookup (now set) (now starts) count (now index) ⌝ }
-    requires { ⌜ length (now rows) ≡ 4608 ⌝ }
+    requires { ⌜ length (now rows) ≡ rowsLength ⌝ }
     ensures { λ _. ⌜ ReadEdges (now (set .entry)) (now (request .entry)) (members .words) (now (rows .exit)) ⌝ }
 {
-    let mut graph = [0u64; 4608];
+    let mut graph = [0u64; ROWS];
     clear(rows);
     set_direct(set, starts, count, index, members, &mut graph, rows);
     set_reads(set, starts, count, members, &graph, rows);

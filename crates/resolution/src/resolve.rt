@@ -9,6 +9,7 @@ ghost use Rattle.resolution.specs.Configuration.{wordCount};
 ghost use Rattle.resolution.specs.Lookup.{Lookup};
 ghost use Rattle.resolution.specs.Resolution.{resolve as resolution};
 ghost use Rattle.resolution.specs.Resolve.{told, resolve as resolveBytes};
+use crate::configuration::WORDS;
 use crate::configure::configure;
 use crate::configure::permitted;
 use crate::resolver::Halt;
@@ -72,8 +73,8 @@ pub fn resolve(set: &[u8], request: &[u8], words: &mut [u64]) -> Outcome
     match answer {
         SetAnswer::Refused(e) => Outcome::Refused(e),
         SetAnswer::Modules(count) => {
-            if words.len() < 4616 {
-                return Outcome::Refused(ModuleError::OutputTooShort(4616));
+            if words.len() < WORDS {
+                return Outcome::Refused(ModuleError::OutputTooShort(WORDS));
             }
             let starts = checked.starts;
             resolve_checked(set, request, &starts, count, &index, words)

@@ -15,6 +15,7 @@ use records::finder::name_at;
 use records::order::name_in;
 use records::record::Kind;
 use records::set::check_set;
+use resolution::configuration::WORDS;
 use resolution::configuration::len;
 use resolution::configuration::reads;
 use resolution::configuration::reads_unnamed;
@@ -140,7 +141,7 @@ fn list(set: &[u8], words: &[u64])
 fn answer<'a>(set: &'a [u8], request: &'a [u8])
     requires { ⌜ length (now set) ≤ 65536 ⌝ }
 {
-    let mut words = [0u64; 4616];
+    let mut words = [0u64; WORDS];
     let outcome = resolution::resolve::resolve(set, request, &mut words);
     match outcome {
         Outcome::Accepted => list(set, &words),

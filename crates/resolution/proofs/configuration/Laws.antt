@@ -17,7 +17,7 @@ use Rattle.resolution.specs.Configuration.{memberWords, rowWords, member
 use Rattle.resolution.proofs.row.Bits.{bit-zero}
 use Rattle.resolution.proofs.row.Counts.{count-same}
 use Rattle.resolution.proofs.row.Laws.{holds-out}
-use Rattle.resolution.proofs.reach.Edges.{edge-is, edge-past}
+use Rattle.resolution.proofs.graph.Edges.{edge-is, edge-past}
 
 -- a word that is not there is 0
 pub no-word : (ws : List ℕ) (at : ℕ) → length ws ≤ at → 0 ≡ getD ws at 0

@@ -12,7 +12,7 @@ use lib.ListN.{length}
 use Rattle.records.proofs.Logic.{true≠false, by, or-left, or-right, or-cases}
 use Rattle.resolution.specs.Row.{holds}
 use Rattle.resolution.specs.Graph.{edge, Reach, step, then, Collected, unmarked, ReachedFrom}
-use Rattle.resolution.proofs.reach.Edges.{edge-below, edge-out}
+use Rattle.resolution.proofs.graph.Edges.{edge-below, edge-out}
 use Rattle.resolution.proofs.row.Counts.{count-strict}
 
 below-next : (k j : ℕ) → j < k + 1 → (j ≡ k) ⊎ (j < k)

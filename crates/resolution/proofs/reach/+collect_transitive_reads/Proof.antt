@@ -10,7 +10,7 @@ use Rattle.resolution.proofs.reach.collect_transitive_reads.Kinds as ki
 use Rattle.resolution.proofs.reach.+collect_transitive_reads.Lts-collect_transitive_reads as lts
 use Rattle.resolution.proofs.reach.next_edge.Reads as next-edge-reads
 use Rattle.resolution.proofs.row.with.Reads as with-reads
-use Rattle.resolution.proofs.reach.any_lacking.Reads as any-lacking-reads
+use Rattle.resolution.proofs.graph.any_lacking.Reads as any-lacking-reads
 use Rattle.resolution.proofs.reach.+collect_transitive_reads.{statement}
 use Rattle.resolution.proofs.reach.+collect_transitive_reads.Tie.{close}
 

@@ -1,5 +1,5 @@
 use borrow.Author.Needs.{needs}
-use Rattle.resolution.proofs.reach.Edges.{next-edge-laws}
+use Rattle.resolution.proofs.reach.Next.{next-edge-laws}
 use borrow.Author.Needs.{needs}
 use Rattle.resolution.proofs.reach.next_edge.Statement.{statement}
 use Rattle.resolution.proofs.reach.next_edge.Tie as tie

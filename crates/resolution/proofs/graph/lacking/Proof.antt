@@ -1,8 +1,8 @@
-use Rattle.resolution.proofs.reach.Edges.{lacking-is}
+use Rattle.resolution.proofs.graph.Edges.{lacking-is}
 use borrow.Author.Needs.{needs}
 use borrow.Author.Needs.{needs}
-use Rattle.resolution.proofs.reach.lacking.Statement.{statement}
-use Rattle.resolution.proofs.reach.lacking.Tie as tie
+use Rattle.resolution.proofs.graph.lacking.Statement.{statement}
+use Rattle.resolution.proofs.graph.lacking.Tie as tie
 
 pub lacking-spec : {M : Type 1} → statement M
 lacking-spec =

@@ -1,8 +1,8 @@
-use Rattle.resolution.proofs.reach.Edges.{any-lacking-laws}
+use Rattle.resolution.proofs.graph.Edges.{any-lacking-laws}
 use borrow.Author.Needs.{needs}
 use borrow.Author.Needs.{needs}
-use Rattle.resolution.proofs.reach.any_lacking.Statement.{statement}
-use Rattle.resolution.proofs.reach.any_lacking.Tie as tie
+use Rattle.resolution.proofs.graph.any_lacking.Statement.{statement}
+use Rattle.resolution.proofs.graph.any_lacking.Tie as tie
 
 pub any-lacking-spec : {M : Type 1} → statement M
 any-lacking-spec =

@@ -1,8 +1,8 @@
-use Rattle.resolution.proofs.readability.Rows.{row-of-in}
+use Rattle.resolution.proofs.graph.Rows.{row-of-in}
 use borrow.Author.Needs.{needs}
 use borrow.Author.Needs.{needs}
-use Rattle.resolution.proofs.readability.row_at.Statement.{statement}
-use Rattle.resolution.proofs.readability.row_at.Tie as tie
+use Rattle.resolution.proofs.graph.row_at.Statement.{statement}
+use Rattle.resolution.proofs.graph.row_at.Tie as tie
 
 pub row-at-spec : {M : Type 1} → statement M
 row-at-spec =

@@ -1,8 +1,8 @@
-use Rattle.resolution.proofs.readability.Rows.{set-row-laws}
+use Rattle.resolution.proofs.graph.Rows.{set-row-laws}
 use borrow.Author.Needs.{needs}
 use borrow.Author.Needs.{needs}
-use Rattle.resolution.proofs.readability.set_row.Statement.{statement}
-use Rattle.resolution.proofs.readability.set_row.Tie as tie
+use Rattle.resolution.proofs.graph.set_row.Statement.{statement}
+use Rattle.resolution.proofs.graph.set_row.Tie as tie
 
 pub set-row-spec : {M : Type 1} → statement M
 set-row-spec =

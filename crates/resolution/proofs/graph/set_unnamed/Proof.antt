@@ -1,8 +1,8 @@
-use Rattle.resolution.proofs.readability.Added.{unnamed-laws}
+use Rattle.resolution.proofs.graph.Laws.{unnamed-laws}
 use borrow.Author.Needs.{needs}
 use borrow.Author.Needs.{needs}
-use Rattle.resolution.proofs.readability.set_unnamed.Statement.{statement}
-use Rattle.resolution.proofs.readability.set_unnamed.Tie as tie
+use Rattle.resolution.proofs.graph.set_unnamed.Statement.{statement}
+use Rattle.resolution.proofs.graph.set_unnamed.Tie as tie
 
 pub set-unnamed-spec : {M : Type 1} → statement M
 set-unnamed-spec =

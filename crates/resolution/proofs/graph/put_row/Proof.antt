@@ -1,9 +1,9 @@
 use Prim.Native.Nat.{_-_}
 use Rattle.records.proofs.output.Written.{PutAt}
-use Rattle.resolution.proofs.readability.Rows.{put-row-laws}
+use Rattle.resolution.proofs.graph.Rows.{put-row-laws}
 use borrow.Author.Needs.{needs}
-use Rattle.resolution.proofs.readability.put_row.Statement.{statement}
-use Rattle.resolution.proofs.readability.put_row.Tie as tie
+use Rattle.resolution.proofs.graph.put_row.Statement.{statement}
+use Rattle.resolution.proofs.graph.put_row.Tie as tie
 
 abbrev Inv-loop : tie.InvT-loop
 Inv-loop words₀ at x k₀ words k = PutAt words₀ at x words k

@@ -13,7 +13,7 @@ use mir.Syntax.{w64}
 use mir.Val.{Fits}
 use lib.Bits.{bitAnd, bitOr}
 use Rattle.records.proofs.Logic.{true≠false, neither-left, neither-right}
-use Rattle.resolution.specs.Row.{bit, holds, FirstFrom}
+use Rattle.resolution.specs.Row.{bit, holds}
 use Rattle.resolution.specs.Graph.{edge, ninth, lacks, Lacking, AnyLacking}
 use Rattle.resolution.proofs.row.Bits.{bit-zero, bit-and, bit-not, bit-or}
 use Rattle.resolution.proofs.row.Laws.{eqb-parts, holds-out, zero-at}
@@ -218,27 +218,3 @@ unfolding lacks
 any-past g i out e l = record { none = λ _ j. ap (λ (t : Bool). t && not (holds out j)) (edge-out g i j e l) }
 
 pub ruleset any-lacking-laws = (any-lacking, any-past)
-
--- the next position of the row of such edges is the next such edge
-pub next-lacking : (g : List ℕ) (i : ℕ) (out ws : List ℕ) (k r : ℕ) → Lacking g i out ws → FirstFrom (holds ws) k 512 r
-    → FirstFrom (lacks g i out) k 512 r
-next-lacking g i out ws k r h n = record {
-  from = n .from;
-  within = n .within;
-  none = λ j f l. sym (h .each j) ∙ n .none j f l;
-  found = λ l. sym (h .each r) ∙ n .found l;
-}
-
-pub no-edge : (g : List ℕ) (i : ℕ) (out : List ℕ) (k : ℕ) → length g ≡ 4608 → k ≤ 512 → 512 ≤ i → FirstFrom (lacks g i out) k 512 512
-unfolding lacks
-no-edge g i out k e h l = record {
-  from = h;
-  within = omega arith;
-  none = λ j _ _. ap (λ (t : Bool). t && not (holds out j)) (edge-out g i j e l);
-  found = λ m. absurd (omega arith);
-}
-
-pub none-lacking : (g : List ℕ) (i : ℕ) (out : List ℕ) (k : ℕ) (r : Bool) → k ≤ 512 → AnyLacking g i out r → r ≡ false → FirstFrom (lacks g i out) k 512 512
-none-lacking g i out k r h a e = record { from = h; within = omega arith; none = λ j _ _. a .none e j; found = λ m. absurd (omega arith) }
-
-pub ruleset next-edge-laws = (next-lacking, none-lacking, no-edge)

@@ -1,8 +1,8 @@
-use Rattle.resolution.proofs.readability.Added.{set-edge-laws}
+use Rattle.resolution.proofs.graph.Laws.{set-edge-laws}
 use borrow.Author.Needs.{needs}
 use borrow.Author.Needs.{needs}
-use Rattle.resolution.proofs.readability.set_edge.Statement.{statement}
-use Rattle.resolution.proofs.readability.set_edge.Tie as tie
+use Rattle.resolution.proofs.graph.set_edge.Statement.{statement}
+use Rattle.resolution.proofs.graph.set_edge.Tie as tie
 
 pub set-edge-spec : {M : Type 1} → statement M
 set-edge-spec =

@@ -1,8 +1,8 @@
 use Prim.Native.Nat.{_-_}
-use Rattle.resolution.proofs.readability.Rows.{ClearAt, clear-laws}
+use Rattle.resolution.proofs.graph.Rows.{ClearAt, clear-laws}
 use borrow.Author.Needs.{needs}
-use Rattle.resolution.proofs.readability.clear.Statement.{statement}
-use Rattle.resolution.proofs.readability.clear.Tie as tie
+use Rattle.resolution.proofs.graph.clear.Statement.{statement}
+use Rattle.resolution.proofs.graph.clear.Tie as tie
 
 abbrev Inv-loop : tie.InvT-loop
 Inv-loop rows₀ k₀ rows k = ClearAt rows k
