@@ -188,6 +188,11 @@ pub record Fresh (count : ℕ) (order : List ℕ) : Type 0 where
   pub few : count ≤ 512
   pub unmarked : (i : ℕ) → i < 512 → getD order (512 + i) 0 ≡ 0
 
+-- `first` has the first n entries of the order
+pub record FirstOf (order : List ℕ) (n : ℕ) (first : List ℕ) : Type 0 where
+  pub long : length first ≡ 512
+  pub same : take n first ≡ take n order
+
 -- a position that is wanted is below count
 unfoldable pub Within : ℕ → Wanted → Type 0
 Within count Pass = Unit {0}

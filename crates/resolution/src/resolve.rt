@@ -40,8 +40,8 @@ fn resolve_checked(
     ensures { λ r. ⌜ told (now (set .entry)) (now (request .entry)) (now (words .entry)) (resolution (modules (now (set .entry))) (requestOf (now (request .entry)))) ≡ record { outcome = r; words = now (words .exit) } ⌝ }
 {
     let row = permitted(set, request, starts, count, index);
-    let done = resolve_order(set, request, starts, count, row, index);
-    let queue = done.queue;
+    let mut order = [0usize; 1024];
+    let queue = resolve_order(set, request, starts, count, row, index, &mut order);
     let halt = queue.halt;
     match halt {
         Halt::Open => {
@@ -51,7 +51,7 @@ fn resolve_checked(
                 starts,
                 count,
                 index,
-                &done.order,
+                &order,
                 queue.tail,
                 words,
             );

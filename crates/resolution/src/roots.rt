@@ -2,7 +2,7 @@
 ghost use mathlib.Core.Path.{_≡_};
 ghost use Prim.Native.Nat.{_≤_};
 ghost use lib.ListN.{length};
-ghost use Rattle.resolution.specs.Resolver.{inputsOf, lineAt, frontAt, rootsAt, firstAt, startOn, resolveAt, Fresh, Moved};
+ghost use Rattle.resolution.specs.Resolver.{inputsOf, lineAt, frontAt, rootsAt, firstAt, startOn, resolveAt, Fresh, FirstOf, Moved};
 ghost use Rattle.resolution.specs.Lookup.{Lookup};
 ghost use Rattle.resolution.specs.Known.{Tables};
 ghost use Rattle.resolution.specs.Runs.{Ran};
@@ -129,13 +129,23 @@ fn resolve_first(
     )
 }
 
-// The modules resolved, in order: the first `queue.tail` positions.
-pub struct Ordered {
-    pub order: [usize; 1024],
-    pub queue: Queue,
+// The first n entries of the order.
+fn first_of(order: &[usize], n: usize) -> [usize; 512]
+    requires { ⌜ n ≤ 512 ⌝ }
+    requires { ⌜ n ≤ length (now order) ⌝ }
+    ensures { λ r. ⌜ FirstOf (now (order .entry)) n r ⌝ }
+{
+    let mut out = [0usize; 512];
+    let mut k: usize = 0;
+    while k < n {
+        out[k] = order[k];
+        k += 1;
+    }
+    out
 }
 
-// The queue of the roots, then the rounds, from this phase on. Where that is known, `names` tells which names are permitted.
+// The queue of the roots, then the rounds, from this phase on: the modules resolved, in order, are the first `tail` positions. Where
+// that is known, `names` tells which names are permitted.
 fn resolve_from(
     set: &[u8],
     request: &[u8],
@@ -143,13 +153,14 @@ fn resolve_from(
     phase: Phase,
     index: &[usize],
     names: &[usize],
-) -> Ordered
+    order: &mut [usize],
+) -> Queue
     requires { ⌜ Tables (now set) (now request) (now starts) (now starts) phase (now index) (now names) (now names) ⌝ }
+    requires { ⌜ Fresh (phase .count) (now order) ⌝ }
     requires { ⌜ length (now request) ≤ 65535 ⌝ }
     requires { ⌜ length (now set) ≤ 65535 ⌝ }
-    ensures { λ r. ⌜ lineAt (r .order) (r .queue) ≡ resolveAt (inputsOf (now (set .entry)) (now (request .entry)) (now (starts .entry)) (now (starts .entry)) phase) ⌝ }
+    ensures { λ r. ⌜ lineAt (now (order .exit)) r ≡ resolveAt (inputsOf (now (set .entry)) (now (request .entry)) (now (starts .entry)) (now (starts .entry)) phase) ⌝ }
 {
-    let mut order = [0usize; 1024];
     let mut packages = [0u64; 1024];
     let first = resolve_first(
         set,
@@ -158,10 +169,10 @@ fn resolve_from(
         phase,
         index,
         names,
-        &mut order,
+        order,
         &mut packages,
     );
-    let old = order;
+    let old = first_of(order, first.tail);
     let permitted = phase.permitted;
     let next = Phase {
         count: phase.count,
@@ -172,18 +183,17 @@ fn resolve_from(
         limited: phase.limited,
         known: false,
     };
-    let queue = make_rounds(
+    make_rounds(
         set,
         request,
         starts,
         &old,
         next,
         index,
-        &mut order,
+        order,
         &mut packages,
         first,
-    );
-    Ordered { order, queue }
+    )
 }
 
 // The same for a request with an LM, whose names come into the table.
@@ -195,11 +205,13 @@ fn resolve_listed(
     permitted: Row,
     index: &[usize],
     table: &mut [usize],
-) -> Ordered
+    order: &mut [usize],
+) -> Queue
     requires { ⌜ Lookup (now set) (now starts) count (now index) ⌝ }
+    requires { ⌜ Fresh count (now order) ⌝ }
     requires { ⌜ length (now request) ≤ 65535 ⌝ }
     requires { ⌜ length (now set) ≤ 65535 ⌝ }
-    ensures { λ r. ⌜ lineAt (r .order) (r .queue) ≡ resolveAt (startOn (now (set .entry)) (now (request .entry)) count (now (starts .entry)) (permitted .words)) ⌝ }
+    ensures { λ r. ⌜ lineAt (now (order .exit)) r ≡ resolveAt (startOn (now (set .entry)) (now (request .entry)) count (now (starts .entry)) (permitted .words)) ⌝ }
 {
     let listed = order_limits(request, table);
     let words = permitted.words;
@@ -212,7 +224,15 @@ fn resolve_listed(
         limited: true,
         known: listed.known,
     };
-    resolve_from(set, request, starts, phase, index, &table[..listed.count])
+    resolve_from(
+        set,
+        request,
+        starts,
+        phase,
+        index,
+        &table[..listed.count],
+        order,
+    )
 }
 
 // The same, with a table for as many names as an LM has.
@@ -223,14 +243,25 @@ fn resolve_limited(
     count: usize,
     permitted: Row,
     index: &[usize],
-) -> Ordered
+    order: &mut [usize],
+) -> Queue
     requires { ⌜ Lookup (now set) (now starts) count (now index) ⌝ }
+    requires { ⌜ Fresh count (now order) ⌝ }
     requires { ⌜ length (now request) ≤ 65535 ⌝ }
     requires { ⌜ length (now set) ≤ 65535 ⌝ }
-    ensures { λ r. ⌜ lineAt (r .order) (r .queue) ≡ resolveAt (startOn (now (set .entry)) (now (request .entry)) count (now (starts .entry)) (permitted .words)) ⌝ }
+    ensures { λ r. ⌜ lineAt (now (order .exit)) r ≡ resolveAt (startOn (now (set .entry)) (now (request .entry)) count (now (starts .entry)) (permitted .words)) ⌝ }
 {
     let mut table = [0usize; 32768];
-    resolve_listed(set, request, starts, count, permitted, index, &mut table)
+    resolve_listed(
+        set,
+        request,
+        starts,
+        count,
+        permitted,
+        index,
+        &mut table,
+        order,
+    )
 }
 
 // The queue of the roots, then the rounds.
@@ -241,14 +272,16 @@ pub fn resolve_order(
     count: usize,
     permitted: Row,
     index: &[usize],
-) -> Ordered
+    order: &mut [usize],
+) -> Queue
     requires { ⌜ Lookup (now set) (now starts) count (now index) ⌝ }
+    requires { ⌜ Fresh count (now order) ⌝ }
     requires { ⌜ length (now request) ≤ 65535 ⌝ }
     requires { ⌜ length (now set) ≤ 65535 ⌝ }
-    ensures { λ r. ⌜ lineAt (r .order) (r .queue) ≡ resolveAt (startOn (now (set .entry)) (now (request .entry)) count (now (starts .entry)) (permitted .words)) ⌝ }
+    ensures { λ r. ⌜ lineAt (now (order .exit)) r ≡ resolveAt (startOn (now (set .entry)) (now (request .entry)) count (now (starts .entry)) (permitted .words)) ⌝ }
 {
     if is_limited(request) {
-        return resolve_limited(set, request, starts, count, permitted, index);
+        return resolve_limited(set, request, starts, count, permitted, index, order);
     }
     let words = permitted.words;
     let phase = Phase {
@@ -260,5 +293,5 @@ pub fn resolve_order(
         limited: false,
         known: false,
     };
-    resolve_from(set, request, starts, phase, index, starts)
+    resolve_from(set, request, starts, phase, index, starts, order)
 }

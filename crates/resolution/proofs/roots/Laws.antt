@@ -1,11 +1,12 @@
 -- The queue of the roots, and the whole.
-use Prim.Native.Nat.{ℕ, suc, _+_, _-_, _≤_}
-use mathlib.Core.Path.{_≡_, refl, sym, _∙_, ap}
+use Prim.Native.Nat.{ℕ, suc, _+_, _-_, _≤_, _<_}
+use mathlib.Core.Path.{_≡_, refl, sym, _∙_, ap, subst}
 use mathlib.Core.Bool.{Bool, true, false, not}
 use mathlib.Core.List.{List, [], map}
 use native.Mathlib.Omega.{arith}
-use lib.ListN.{length, take, drop, replicate, length-replicate, getD-replicate}
-use lib.Seq.{length-take-le}
+use native.Mathlib.Numerals.{add-one}
+use lib.ListN.{length, getD, take, drop, set, replicate, length-set, length-replicate, getD-replicate}
+use lib.Seq.{length-take-le, take-suc, take-set-le, getD-set-same}
 use Rattle.records.specs.Name.{javaBase, memName, nameOf}
 use Rattle.records.specs.Record.{records, bodies}
 use Rattle.records.specs.Request.{requestOf}
@@ -15,7 +16,7 @@ use Rattle.records.specs.declared.record.Kind.the-variants as Kind
 use Rattle.records.proofs.Logic.{clash}
 use Rattle.resolution.specs.Lists.{any}
 use Rattle.resolution.specs.Row.{one}
-use Rattle.resolution.specs.Resolver.{Inputs, inputsOf, want, Line, lineAt, isOneOf, pickLine, queued, queueIn, runAt, roundsAt, frontAt, rootsAt, firstAt, thenRounds, startOn, resolveAt, Ready, Fresh, Moved}
+use Rattle.resolution.specs.Resolver.{Inputs, inputsOf, want, Line, lineAt, isOneOf, pickLine, queued, queueIn, runAt, roundsAt, frontAt, rootsAt, firstAt, thenRounds, startOn, resolveAt, Ready, Fresh, FirstOf, Moved}
 use Rattle.resolution.specs.Filter.{asked}
 use Rattle.resolution.specs.Lookup.{Lookup}
 use Rattle.resolution.specs.Known.{Limited, LimitTold, Tables, Later}
@@ -28,7 +29,7 @@ use Rattle.resolution.specs.declared.resolver.Queue.{Queue}
 use Rattle.resolution.specs.declared.resolver.Wanted.{Wanted}
 use Rattle.resolution.proofs.row.Counts.{count-le}
 use Rattle.resolution.proofs.filter.Covers.{covers-none}
-use Rattle.resolution.proofs.resolver.Turns.{longer-queued, longer-records, tail-long}
+use Rattle.resolution.proofs.resolver.Turns.{longer-queued, longer-records, tail-long, tail-few}
 
 module _ (set request starts : List ℕ) (phase : Phase) where
   abbrev w : Inputs
@@ -111,18 +112,52 @@ pub ruleset roots-laws = (roots-ready, roots-moved)
 
 pub ruleset first-laws = (first-running, first-ran)
 
+-- ---- the first entries
+
+-- those before k are there
+pub record CopiedAt (order : List ℕ) (n : ℕ) (out : List ℕ) (k : ℕ) : Type 0 where
+  pub within : k ≤ n
+  pub long : length out ≡ 512
+  pub so-far : take k out ≡ take k order
+
+pub first-start : (order : List ℕ) (n : ℕ) → CopiedAt order n (replicate 512 0) 0
+first-start order n = record { within = omega arith; long = length-replicate {A = ℕ} 512 0; so-far = refl }
+
+module _ (order : List ℕ) (n : ℕ) (few : n ≤ 512) (room : n ≤ length order) (out : List ℕ) (k : ℕ) (h : CopiedAt order n out k) where
+  pub first-more : k < n → CopiedAt order n (set out k (getD order k 0)) (k + 1)
+  first-more l = record {
+    within = omega arith;
+    long = length-set out k (getD order k 0) ∙ h .long;
+    so-far =
+        ap (λ (i : ℕ). take i (set out k (getD order k 0))) (add-one k)
+        ∙ take-suc (set out k (getD order k 0)) k 0 (omega (arith, length-set out k (getD order k 0), h .long))
+        ∙ rw (take-set-le k out k (getD order k 0) (omega arith), h .so-far, getD-set-same out k (getD order k 0) 0 (omega (arith, h .long)))
+        (sym (ap (λ (i : ℕ). take i order) (add-one k) ∙ take-suc order k 0 (omega (arith, room))));
+  }
+
+  pub first-out : k < n → k < length out
+  first-out l = omega (arith, h .long)
+
+  pub first-in : k < n → k < length order
+  first-in l = omega (arith, room)
+
+  pub first-done : n ≤ k → FirstOf order n out
+  first-done l = let e : k ≡ n = omega (arith, h .within) in record { long = h .long; same = subst (λ (i : ℕ). take i out ≡ take i order) e (h .so-far) }
+
+pub ruleset first-of-laws = (first-start, first-more, first-out, first-in, first-done)
+
 -- ---- the whole
 
-module _ (set request starts : List ℕ) (phase : Phase) (index names : List ℕ) (h : Tables set request starts starts phase index names names) where
-  pub order-fresh : Fresh (phase .count) (replicate 1024 0)
-  order-fresh = record { long = length-replicate {A = ℕ} 1024 0; few = h .lookup .few; unmarked = λ i l. getD-replicate 1024 (512 + i) 0 0 (omega (arith, l)) }
+pub order-fresh : (count : ℕ) → count ≤ 512 → Fresh count (replicate 1024 0)
+order-fresh count h = record { long = length-replicate {A = ℕ} 1024 0; few = h; unmarked = λ i l. getD-replicate 1024 (512 + i) 0 0 (omega (arith, l)) }
 
-  pub order-later : length request ≤ 65535 → (old : List ℕ) (before : ℕ) → before ≤ length old
+module _ (set request starts : List ℕ) (phase : Phase) (index names : List ℕ) (h : Tables set request starts starts phase index names names) where
+  pub order-later : length request ≤ 65535 → (order old : List ℕ) (before : ℕ) → before ≤ 512 → FirstOf order before old
       → Later set request starts old (record { count = phase .count; permitted = phase .permitted; in_round = true; before = before; statics = phase .statics; limited = phase .limited; known = false }) index
-  order-later s old before l = record {
+  order-later s order old before l f = record {
     lookup = h .lookup;
     short = s;
-    within = l;
+    within = omega (arith, l, f .long);
     later = refl;
     unknown = refl;
     free = h .limits .free;
@@ -137,16 +172,20 @@ module _ (set request starts : List ℕ) (phase : Phase) (order packages : List 
   pub order-within : q .tail ≤ length order
   order-within = tail-long (phase .count) order q (m .running .ready)
 
-  pub order-is : (order₂ : List ℕ) (r : Queue)
+  pub order-few : q .tail ≤ 512
+  order-few = omega (arith, tail-few (phase .count) order q (m .running .ready), m .running .ready .few)
+
+  pub order-is : (old : List ℕ) → FirstOf order (q .tail) old → (order₂ : List ℕ) (r : Queue)
       → Moved (phase .count) order₂ r
-      (roundsAt (inputsOf set request starts order (record { count = phase .count; permitted = phase .permitted; in_round = true; before = q .tail; statics = phase .statics; limited = phase .limited; known = false })) (suc (phase .count)) (lineAt order q))
+      (roundsAt (inputsOf set request starts old (record { count = phase .count; permitted = phase .permitted; in_round = true; before = q .tail; statics = phase .statics; limited = phase .limited; known = false })) (suc (phase .count)) (lineAt order q))
       → lineAt order₂ r ≡ resolveAt (inputsOf set request starts starts phase)
   unfolding resolveAt thenRounds inputsOf lineAt
-  order-is order₂ r n =
+  order-is old f order₂ r n =
       n .line
+      ∙ ap (λ (l : List ℕ). roundsAt (record { set = set; request = request; starts = starts; count = phase .count; permitted = phase .permitted; inRound = true; before = l }) (suc (phase .count)) (lineAt order q)) (f .same)
       ∙ ap (λ (l : Line). roundsAt (record { set = set; request = request; starts = starts; count = phase .count; permitted = phase .permitted; inRound = true; before = l .order }) (suc (phase .count)) l) (m .line)
 
-pub ruleset order-laws = (order-fresh, order-later, order-running, order-within, order-is)
+pub ruleset order-laws = (order-later, order-running, order-within, order-few, order-is)
 
 -- ---- with and without an LM
 

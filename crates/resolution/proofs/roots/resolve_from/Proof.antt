@@ -1,4 +1,4 @@
-use Rattle.resolution.proofs.roots.Laws.{order-laws, order-fresh, order-running, order-within, order-later}
+use Rattle.resolution.proofs.roots.Laws.{order-laws, order-running, order-few, order-later}
 use borrow.Author.Needs.{needs}
 use Rattle.resolution.proofs.roots.resolve_from.Statement.{statement}
 use Rattle.resolution.proofs.roots.resolve_from.Tie as tie
@@ -8,10 +8,10 @@ resolve-from-spec =
     tie.close
     (tie.spec
     (λ c. search (order-laws, needs))
+    (λ c κs. (search needs, (search needs, (search needs, (search needs, search needs)))))
+    (λ c κs. search (order-laws, needs))
     (λ c. search (order-laws, needs))
-    (λ c κs. (search needs, (search (order-fresh, needs), (search needs, (search needs, search needs)))))
     (λ c. search (order-laws, needs))
+    (λ c κs. (search (order-later, order-few, c .before .before .before .before .before .before .before .before .before .before .before .before .before .before .before .before .before .before .pre .0, c .before .before .before .before .before .before .before .before .before .before .before .before .before .before .before .before .before .before .pre .1 .1 .0, needs), search (order-running, needs)))
     (λ c. search (order-laws, needs))
-    (λ c. search (order-laws, needs))
-    (λ c κs. (search (order-later, c .before .before .before .before .before .before .before .before .before .before .before .before .before .before .pre .0, c .before .before .before .before .before .before .before .before .before .before .before .before .before .before .pre .1 .0, order-within, needs), search (order-running, needs)))
     (λ c. search (order-laws, needs)))

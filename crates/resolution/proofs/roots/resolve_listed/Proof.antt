@@ -13,4 +13,5 @@ resolve-listed-spec =
     (λ c. search (listed-laws, needs))
     (λ c κs. search (listed-laws, needs))
     (λ c. search (listed-laws, needs))
+    (λ c. search (listed-laws, needs))
     (λ c. search (listed-laws, needs)))

@@ -10,6 +10,8 @@ resolve-order-spec =
     (λ c κs. search (free-laws, needs))
     (λ c κs. search (free-laws, needs))
     (λ c. search (free-laws, needs))
+    (λ c. search (free-laws, needs))
     (λ c κs. search (free-laws, needs))
     (λ c κs. search (free-laws, needs))
+    (λ c. search (free-laws, needs))
     (λ c. search (free-laws, needs)))
