@@ -13,6 +13,7 @@ ghost use Rattle.resolution.specs.Configuration.{wordCount};
 ghost use Rattle.resolution.specs.Configure.{isFoundBy, MemberRow, Configured, PermittedRow};
 use crate::configuration::MEMBER_WORDS;
 use crate::configuration::WORDS;
+use crate::configuration::add_read;
 use crate::graph::put_row;
 use crate::readability::read_edges;
 use crate::row::Row;
@@ -106,16 +107,16 @@ pub fn permitted(set: &[u8], request: &[u8], starts: &[usize], count: usize, ind
 fn member_row(order: &[usize], n: usize) -> Row
     ensures { λ r. ⌜ MemberRow (take n (now (order .entry))) (r .words) ⌝ }
 {
-    let mut row = empty();
+    let mut words = [0u64; 8];
     let mut k: usize = 0;
     while k < n {
         if order.len() <= k {
-            return row;
+            return Row { words };
         }
-        row = with(row, order[k]);
+        add_read(&mut words, order[k]);
         k += 1;
     }
-    row
+    Row { words }
 }
 
 // Writes the configuration of the modules at the first n positions of the order: the members, then the rows, each where it lies.

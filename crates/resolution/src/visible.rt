@@ -5,9 +5,8 @@ ghost use Rattle.records.specs.declared.set.SetAnswer.the-variants.{Modules};
 ghost use Rattle.resolution.specs.Lookup.{Lookup};
 ghost use Rattle.resolution.specs.Positions.{isVisible};
 ghost use Rattle.resolution.specs.Readability.{Holding};
+use crate::configuration::add_read;
 use crate::row::Row;
-use crate::row::empty;
-use crate::row::with;
 use records::sorted::entries;
 use records::sorted::position;
 
@@ -18,11 +17,11 @@ pub fn visible(set: &[u8], starts: &[usize], count: usize, index: &[usize]) -> R
     ensures { λ r. ⌜ Holding (r .words) (isVisible (modules (now (set .entry)))) ⌝ }
 {
     let n = entries(index);
-    let mut row = empty();
+    let mut words = [0u64; 8];
     let mut k: usize = 0;
     while k < n {
-        row = with(row, position(index, k));
+        add_read(&mut words, position(index, k));
         k += 1;
     }
-    row
+    Row { words }
 }

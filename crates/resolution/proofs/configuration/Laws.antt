@@ -1,22 +1,22 @@
 -- The words of a configuration: the three tests of their bits, and one row with a position more.
 use mathlib.Core.Path.{_≡_, refl, sym, ap, ap₂, _∙_}
-use mathlib.Core.Bool.{Bool, true, false, _&&_, and-false, cond}
+use mathlib.Core.Bool.{Bool, true, false, _&&_, _||_, and-false, cond}
 use mathlib.Core.List.{List, [], _∷_}
 use Prim.Native.Nat.{ℕ, zero, suc, _+_, _*_, _/_, _%_, _^_, _≤_, _<_}
 use native.Mathlib.Omega.{arith}
 use lib.Bits.{bitOr}
 use lib.Dec.{eqb, ltb}
-use lib.ListN.{length, getD, take, drop, set, length-take, List·getD-eq-default}
+use lib.ListN.{length, getD, take, drop, set, length-set, length-take, List·getD-eq-default}
 use lib.Seq.{getD-take, getD-drop, set-out}
 use borrow.Author.Tests.{ltb-true, ltb-false, lt-ltb, le-ltb}
 use Rattle.records.proofs.Logic.{by}
-use Rattle.resolution.specs.Row.{bit, holds, size, Empty}
+use Rattle.resolution.specs.Row.{bit, holds, size, Empty, Added}
 use Rattle.resolution.specs.Readability.{Holding}
 use Rattle.resolution.specs.Graph.{edge, ninth, unnamedEdge}
 use Rattle.resolution.specs.Configuration.{memberWords, rowWords, memberBit, edgeBit, unnamedBit, withRead}
-use Rattle.resolution.proofs.row.Bits.{bit-zero}
+use Rattle.resolution.proofs.row.Bits.{bit-zero, bit-or, bit-pow}
 use Rattle.resolution.proofs.row.Counts.{count-same}
-use Rattle.resolution.proofs.row.Laws.{holds-out}
+use Rattle.resolution.proofs.row.Laws.{holds-out, holds-added}
 use Rattle.resolution.proofs.graph.Edges.{edge-is, edge-past}
 
 -- a word that is not there is 0
@@ -167,5 +167,25 @@ module _ (row : List ℕ) (j : ℕ) where
   pub with-past : 512 ≤ j → row ≡ withRead row j
   unfolding withRead
   with-past l = rw (le-ltb j 512 l)
+
+-- on a row of eight words it is the row with that position more
+read-bits : (w p b : ℕ) → bit (bitOr w (2 ^ p)) b ≡ bit w b || eqb b p
+read-bits w p b = bit-or w (2 ^ p) b ∙ ap (λ (z : Bool). bit w b || z) (bit-pow p b)
+
+pub read-added : (ws : List ℕ) (j : ℕ) (after : List ℕ) → length ws ≡ 8 → after ≡ withRead ws j → Added ws j after
+unfolding withRead
+read-added ws j after n e = record {
+  below = λ l k. ap (λ (x : List ℕ). holds x k) (e ∙ rw (lt-ltb j 512 l))
+      ∙ holds-added ws j (bitOr (getD ws (j / 64) 0) (2 ^ (j % 64))) (omega (arith, n, l)) (read-bits (getD ws (j / 64) 0) (j % 64)) k;
+  above = λ l. e ∙ rw (le-ltb j 512 l);
+}
+
+pub read-long : (ws : List ℕ) (j : ℕ) (after : List ℕ) → length ws ≡ 8 → after ≡ withRead ws j → length after ≡ 8
+unfolding withRead
+read-long ws j after n e = ap length e ∙ go (ltb j 512)
+  where
+    go : (b : Bool) → length (cond b (set ws (j / 64) (bitOr (getD ws (j / 64) 0) (2 ^ (j % 64)))) ws) ≡ 8
+    go true = length-set ws (j / 64) (bitOr (getD ws (j / 64) 0) (2 ^ (j % 64))) ∙ n
+    go false = n
 
 pub ruleset add-read-laws = (with-read, with-short, with-past)

@@ -8,7 +8,7 @@ use native.Mathlib.Omega.{arith}
 use native.Mathlib.Numerals.{add-one}
 use native.Mathlib.Nat.{zero-add}
 use lib.Dec.{eqb, ltb}
-use lib.ListN.{length, getD, take, drop, length-drop, List·getD-append, List·getD-eq-default}
+use lib.ListN.{length, getD, take, drop, replicate, length-replicate, length-drop, List·getD-append, List·getD-eq-default}
 use lib.Seq.{take-suc, length-take-le, getD-append-add, take-at}
 use borrow.Rule.Slice.PartMut.{putMid}
 use mir.Syntax.{w64}
@@ -24,9 +24,9 @@ use Rattle.records.proofs.Logic.{by, true≠false}
 use Rattle.resolution.specs.Lists.{Mem, any}
 use Rattle.resolution.specs.Resolution.{find, hasModule}
 use Rattle.resolution.specs.Positions.{moduleAt, isVisible}
-use Rattle.resolution.specs.Row.{holds, one, Empty, Added}
+use Rattle.resolution.specs.Row.{holds, one, Added}
 use Rattle.resolution.specs.Graph.{ninth, unnamedEdge}
-use Rattle.resolution.specs.Configuration.{wordCount}
+use Rattle.resolution.specs.Configuration.{wordCount, withRead}
 use Rattle.resolution.specs.Readability.{Members, ReadEdges}
 use Rattle.resolution.specs.Resolver.{isOneOf}
 use Rattle.resolution.specs.Resolve.{memberAt, edgeAt, unnamedAt, configurationOf}
@@ -36,6 +36,8 @@ use Rattle.resolution.proofs.Positions.{index-at, has-at, visible-in, v
 use Rattle.resolution.proofs.Sets.{set-length}
 use Rattle.resolution.proofs.Words.{words-are}
 use Rattle.resolution.proofs.ConfigurationWords.{rows-are, one-bit, words-written}
+use Rattle.resolution.proofs.configuration.Laws.{read-added, read-long}
+use Rattle.resolution.proofs.row.Laws.{empty-zeros}
 use Rattle.resolution.proofs.resolver.Ends.{one-of-end}
 
 -- ---- the positions as a row
@@ -44,11 +46,12 @@ use Rattle.resolution.proofs.resolver.Ends.{one-of-end}
 pub record MembersAt (order : List ℕ) (n : ℕ) (ws : List ℕ) (k : ℕ) : Type 0 where
   pub within : k ≤ n
   pub inside : k ≤ length order
+  pub long : length ws ≡ 8
   pub so-far : MemberRow (take k order) ws
 
-pub members-start : (order : List ℕ) (n : ℕ) (ws : List ℕ) → Empty ws → MembersAt order n ws 0
+pub members-start : (order : List ℕ) (n : ℕ) → MembersAt order n (replicate 8 0) 0
 unfolding isOneOf any
-members-start order n ws h = record { within = omega arith; inside = omega arith; so-far = record { each = λ k. h .none k ∙ sym (and-false (ltb k 512)) } }
+members-start order n = record { within = omega arith; inside = omega arith; long = length-replicate {A = ℕ} 8 0; so-far = record { each = λ k. empty-zeros 8 .none k ∙ sym (and-false (ltb k 512)) } }
 
 -- the first n are all, where there are no more than n
 take-all : (l : List ℕ) (n k : ℕ) → length l ≤ k → k ≤ n → take k l ≡ take n l
@@ -61,15 +64,19 @@ take-all (x ∷ l) zero (suc k) a b = absurd (omega arith)
 take-all (x ∷ l) (suc n) (suc k) a b = ap (λ (r : List ℕ). x ∷ r) (take-all l n k (omega arith) (omega arith))
 
 module _ (order : List ℕ) (n : ℕ) (ws : List ℕ) (k : ℕ) (h : MembersAt order n ws k) where
-  pub members-more : (after : List ℕ) → k < n → k < length order → Added ws (getD order k 0) after → MembersAt order n after (k + 1)
-  members-more after l m a = record {
+  pub members-more : (after : List ℕ) → k < n → k < length order → after ≡ withRead ws (getD order k 0) → MembersAt order n after (k + 1)
+  members-more after l m e = record {
     within = omega arith;
     inside = omega arith;
+    long = read-long ws (getD order k 0) after (h .long) e;
     so-far = record { each = λ j. by (ltb (getD order k 0) 512) (λ y. below j (ltb-true (getD order k 0) 512 y)) (λ y. above j (ltb-false (getD order k 0) 512 y)) ∙ sym (more j) };
   }
     where
       p : ℕ
       p = getD order k 0
+
+      a : Added ws p after
+      a = read-added ws p after (h .long) e
 
       more : (j : ℕ) → ltb j 512 && isOneOf j (take (k + 1) order) ≡ ltb j 512 && (isOneOf j (take k order) || eqb j p)
       more j = ap (λ (b : Bool). ltb j 512 && b)

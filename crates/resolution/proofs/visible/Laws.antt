@@ -6,7 +6,7 @@ use mathlib.Core.List.{List, [], _∷_, _++_, map}
 use native.Mathlib.Omega.{arith}
 use native.Mathlib.Numerals.{add-one}
 use lib.Dec.{eqb, ltb}
-use lib.ListN.{length, getD, take}
+use lib.ListN.{length, getD, take, replicate, length-replicate}
 use lib.Seq.{take-suc, take-length}
 use borrow.Author.Tests.{ltb-true, ltb-false}
 use Rattle.records.specs.Set.{checkSet, nameAt, modules}
@@ -20,12 +20,15 @@ use Rattle.records.proofs.sorted.Growth as Growth
 use Rattle.records.proofs.sorted.Visible.{sorted-exactly}
 use Rattle.records.proofs.sorted.Index.{table-long, entry-at, entry-in}
 use Rattle.records.proofs.sorted.Laws.{names-long, position-name}
+use Rattle.resolution.specs.Configuration.{withRead}
 use Rattle.resolution.specs.Lookup.{Lookup}
 use Rattle.resolution.specs.Positions.{isVisible}
 use Rattle.resolution.specs.Readability.{Holding}
-use Rattle.resolution.specs.Row.{holds, Empty, Added}
+use Rattle.resolution.specs.Row.{holds, Added}
 use Rattle.resolution.proofs.Positions.{visible-in}
 use Rattle.resolution.proofs.Sets.{set-length, visible-start}
+use Rattle.resolution.proofs.configuration.Laws.{read-added, read-long}
+use Rattle.resolution.proofs.row.Laws.{empty-zeros}
 
 has-last : (j p : ℕ) (l : List ℕ) → hasPosition j (l ++ (p ∷ [])) ≡ hasPosition j l || eqb j p
 unfolding hasPosition
@@ -35,11 +38,12 @@ has-last j p (q ∷ l) = rw (has-last j p l) (sym (or-assoc (eqb j q) (hasPositi
 -- the first k entries are in the row
 pub record VisibleAt (index ws : List ℕ) (k : ℕ) : Type 0 where
   pub within : k ≤ entriesIn index
+  pub long : length ws ≡ 8
   pub so-far : (j : ℕ) → holds ws j ≡ hasPosition j (take k (tableIn index))
 
-pub visible-start-at : (index ws : List ℕ) → Empty ws → VisibleAt index ws 0
+pub visible-start-at : (index : List ℕ) → VisibleAt index (replicate 8 0) 0
 unfolding hasPosition
-visible-start-at index ws h = record { within = omega arith; so-far = λ j. h .none j }
+visible-start-at index = record { within = omega arith; long = length-replicate {A = ℕ} 8 0; so-far = λ j. empty-zeros 8 .none j }
 
 module _ (s t index : List ℕ) (n : ℕ) (x : Lookup s t n index) where
   pub visible-long : length index ≡ 2050
@@ -49,14 +53,16 @@ module _ (s t index : List ℕ) (n : ℕ) (x : Lookup s t n index) where
     pub visible-few : k < m → k < 512
     visible-few l = omega (arith, x .indexed .few, x .indexed .most)
 
-    pub visible-more : (p : ℕ) (after : List ℕ) → k < m → p ≡ getD index (1538 + k) 0 → Added ws p after → VisibleAt index after (k + 1)
-    visible-more p after l ep a =
+    pub visible-more : (p : ℕ) (after : List ℕ) → k < m → p ≡ getD index (1538 + k) 0 → after ≡ withRead ws p → VisibleAt index after (k + 1)
+    visible-more p after l ep ea₂ =
+        let a : Added ws p after = read-added ws p after (h .long) ea₂ in
         let kl : k < entriesIn index = omega (arith, em) in
         let kt : k < length (tableIn index) = rw (table-long (map (nameAt s) (take n t)) index (x .indexed)) kl in
         let ea : getD (tableIn index) k 0 ≡ p = entry-at (map (nameAt s) (take n t)) index (x .indexed) k kl ∙ sym ep in
         let small : p < 512 = rw ep (omega (arith, entry-in (map (nameAt s) (take n t)) index (x .indexed) k kl, x .indexed .most)) in
         record {
           within = omega (arith, em);
+          long = read-long ws p after (h .long) ea₂;
           so-far = λ j. a .below small j ∙ rw (h .so-far j) (sym (rw (add-one k, take-suc (tableIn index) k 0 kt, ea) (has-last j p (take k (tableIn index)))));
         }
 

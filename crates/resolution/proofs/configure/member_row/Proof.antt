@@ -5,10 +5,10 @@ use Rattle.resolution.proofs.configure.member_row.Statement.{statement}
 use Rattle.resolution.proofs.configure.member_row.Tie as tie
 
 abbrev Inv-loop : tie.InvT-loop
-Inv-loop order n row₀ k₀ row k = MembersAt order n (row .words) k
+Inv-loop order n words₀ k₀ words k = MembersAt order n words k
 
 abbrev μ-loop : tie.MeasureT-loop
-μ-loop order n row₀ k₀ row k = n - k
+μ-loop order n words₀ k₀ words k = n - k
 
 pub member-row-spec : {M : Type 1} → statement M
 member-row-spec =
@@ -16,7 +16,7 @@ member-row-spec =
     (tie.spec
     Inv-loop
     μ-loop
-    (λ c κs. search (members-laws, needs))
+    (λ c. search (members-laws, needs))
     (λ c. search (members-laws, needs))
     (λ c. search (members-laws, needs))
     (λ c. search (members-laws, needs))

@@ -5,10 +5,10 @@ use Rattle.resolution.proofs.visible.visible.Statement.{statement}
 use Rattle.resolution.proofs.visible.visible.Tie as tie
 
 abbrev Inv-loop : tie.InvT-loop
-Inv-loop set starts count index n row₀ k₀ row k = VisibleAt index (row .words) k
+Inv-loop set starts count index n words₀ k₀ words k = VisibleAt index words k
 
 abbrev μ-loop : tie.MeasureT-loop
-μ-loop set starts count index n row₀ k₀ row k = n - k
+μ-loop set starts count index n words₀ k₀ words k = n - k
 
 pub visible-spec : {M : Type 1} → statement M
 visible-spec =
@@ -17,7 +17,7 @@ visible-spec =
     Inv-loop
     μ-loop
     (λ c κs. search (visible-laws, needs))
-    (λ c κs. search (visible-laws, needs))
+    (λ c. search (visible-laws, needs))
     (λ c. search (visible-laws, needs))
     (λ c κs. search (visible-laws, needs))
     (λ c κs. search (visible-laws, needs))
