@@ -18,9 +18,8 @@ unfolding readsName
 readAnswered s c x y (Set.Refused e) = Refused e
 readAnswered s c x y (Set.Modules n) = Reads (sameBytes x y || (sameBytes y javaBase || readsName s c x y))
 
--- a module of the name x can read one of the name y: refusals 1 to 3 of the set first, then 4 for fewer than 4,616
--- words (U12); then equal names, target java.base or a
--- read edge
+-- a module of the name x can read one of the name y: refusals 1 to 3 of the set first, then 4 for fewer than 4,616 words (U12); then
+-- equal names, target java.base or a read edge
 unfoldable pub canRead : List ℕ → List ℕ → Name → Name → ReadAnswer
 unfolding readAnswered withWords
 canRead s c x y = readAnswered s c x y (withWords c (checkSet s .answer))

@@ -1,5 +1,6 @@
--- What a refusal of `resolve` says is true of the set and the request: no "5 or 7 with no absent or shared name" (document 01,
--- "Conditions of acceptance"), and no 6 with a java.base. proofs/Cause has the theorem, `cause-true`.
+-- What a refusal of `resolve` says is true of the set, the request and the lent words: no "5 or 7 with no absent or shared name"
+-- (document 01, "Conditions of acceptance"), no 6 with a java.base, and no 4 with enough words. proofs/Cause has the theorem,
+-- `cause-true`.
 use mathlib.Core.Path.{_≡_}
 use mathlib.Core.Bool.{true, false}
 use mathlib.Core.List.{List}

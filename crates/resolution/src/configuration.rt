@@ -1,5 +1,6 @@
 // The words of a configuration, which the host lends: the members, who reads whom, and who reads the unnamed module, by positions in
-// the set. Each function reads one of the three where it lies; `add_read` adds an edge. Words that are not there count as 0.
+// the set. Each function reads one of the three where it lies; `add_read` adds a position to the words of a row. Words that are not
+// there count as 0.
 ghost use mathlib.Core.Path.{_≡_};
 ghost use lib.ListN.{getD};
 ghost use Rattle.resolution.specs.Row.{size};
@@ -80,7 +81,8 @@ pub fn row_of(words: &[u64], i: usize) -> Row
     empty()
 }
 
-// One row's words, lent as a part of the words of a configuration, get position j. From 512 on there is none, and nothing changes.
+// The words of one row, lent as a part of those of a configuration or by themselves, get position j. From 512 on there is none, and
+// nothing changes.
 pub fn add_read(row: &mut [u64], j: usize)
     ensures { λ _. ⌜ now (row .exit) ≡ withRead (now (row .entry)) j ⌝ }
 {

@@ -1,4 +1,4 @@
-// What modules reach by edges, in a graph of 512 rows of nine words, of which the first eight are its edges.
+// What modules reach by edges, in a graph of 512 rows (`graph`).
 ghost use mathlib.Core.Path.{_≡_};
 ghost use Prim.Native.Nat.{_≤_};
 ghost use lib.ListN.{length};
