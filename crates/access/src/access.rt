@@ -26,13 +26,13 @@ use records::sorted::{INDEX_LENGTH, find_in};
 use resolution::configuration::{WORDS, reads, reads_unnamed};
 
 // What is asked.
-#[derive(Drop)]
+#[derive(Clone, Copy)]
 pub enum AccessKind {
     Access,
     Reflection,
 }
 
-#[derive(Drop)]
+#[derive(Clone, Copy)]
 pub enum AccessCheckResult {
     Allowed,
     NotReadable,
@@ -41,14 +41,14 @@ pub enum AccessCheckResult {
 }
 
 // The verdict, or why the set, the request or the words are refused.
-#[derive(Drop)]
+#[derive(Clone, Copy)]
 pub enum AccessAnswer {
     Verdict(AccessCheckResult),
     Refused(ModuleError),
 }
 
 // Whether one module can read another, or why the set or the words are refused.
-#[derive(Drop)]
+#[derive(Clone, Copy)]
 pub enum ReadAnswer {
     Reads(bool),
     Refused(ModuleError),

@@ -21,14 +21,14 @@ use resolution::configuration::{WORDS, members, reads, reads_unnamed, row_of};
 use resolution::row::{Row, count, empty, has, intersection, union, with};
 use resolution::visible::visible;
 
-#[derive(Drop)]
+#[derive(Clone, Copy)]
 pub enum GraphOutcome {
     Answered,
     Refused(ModuleError),
 }
 
 // A row of positions in the set, and whether ALL-UNNAMED is among them. Nothing of it on a refusal.
-#[derive(Drop)]
+#[derive(Clone, Copy)]
 pub struct GraphAnswer {
     pub outcome: GraphOutcome,
     pub row: [u64; 8],

@@ -8,7 +8,7 @@ use records::set::SetAnswer;
 use resolution::configuration::WORDS;
 
 // A refusal: its number, the input that it points into, and its particulars.
-#[derive(Drop)]
+#[derive(Clone, Copy)]
 pub struct Refusal {
     pub number: usize,
     pub which: usize,

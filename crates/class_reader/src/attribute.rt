@@ -10,7 +10,7 @@ use crate::pool::{is_tag, text};
 use records::bytes::{be16, same};
 
 // The three attributes that are read, and all others.
-#[derive(Drop)]
+#[derive(Clone, Copy)]
 pub enum Attribute {
     Module,
     ModulePackages,
@@ -19,7 +19,7 @@ pub enum Attribute {
 }
 
 // Where each of the three stands, 0 where it was not met.
-#[derive(Drop)]
+#[derive(Clone, Copy)]
 pub struct Seen {
     pub descriptor: usize,
     pub packages: usize,
@@ -27,7 +27,7 @@ pub struct Seen {
 }
 
 // What was met, and what the contents of its Module attribute measure; or the offset of the first fault.
-#[derive(Drop)]
+#[derive(Clone, Copy)]
 pub enum Walked {
     Found(Seen, Measured),
     Fault(usize),

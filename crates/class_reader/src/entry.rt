@@ -8,7 +8,7 @@ use crate::pool::{has_name, has_version, name, version};
 use records::bytes::be16;
 
 // What an entry says, and the record that it becomes.
-#[derive(Drop)]
+#[derive(Clone, Copy)]
 pub enum Entry {
     Module,
     Requires,

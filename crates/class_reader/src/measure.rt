@@ -9,7 +9,7 @@ use records::bytes::{be16, same};
 
 // How far the file was read, 0 where a fault was met; the bytes that its records take; whether one of their bodies is over
 // 65,535 bytes.
-#[derive(Drop)]
+#[derive(Clone, Copy)]
 pub struct Measured {
     pub next: usize,
     pub size: usize,

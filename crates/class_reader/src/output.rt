@@ -15,7 +15,7 @@ use records::bytes::{be16, byte};
 use records::output::{put, put_named};
 
 // How far the output is written, and how far the file was read.
-#[derive(Drop)]
+#[derive(Clone, Copy)]
 pub struct Placed {
     pub at: usize,
     pub next: usize,

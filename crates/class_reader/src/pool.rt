@@ -8,7 +8,7 @@ use records::bytes::{be16, byte, part};
 use records::name::printable;
 
 // Where the pool ends, or the constant at fault.
-#[derive(Drop)]
+#[derive(Clone, Copy)]
 pub enum Pool {
     End(usize),
     Fault(usize),

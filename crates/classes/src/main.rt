@@ -8,7 +8,7 @@ use records::error::ModuleError;
 use records::jar::Written;
 
 // A number, 0 where records are written, and the offset or length that goes with it.
-#[derive(Drop)]
+#[derive(Clone, Copy)]
 struct Answer {
     number: usize,
     at: usize,

@@ -2,7 +2,7 @@
 ghost use Rattle.io.specs.Counts.{IsPrefixLen};
 
 // How many bytes of a file are in its buffer, and whether the file was read to its end or fills the buffer.
-#[derive(Drop)]
+#[derive(Clone, Copy)]
 pub struct Loaded {
     pub len: usize,
     pub is_read: bool,

@@ -6,14 +6,14 @@ use crate::bytes::{byte, head, same, tail};
 use crate::error::ModuleError;
 
 // Whether a name is valid.
-#[derive(Drop)]
+#[derive(Clone, Copy)]
 pub enum Named {
     Valid,
     Refused(ModuleError),
 }
 
 // A name of at most 255 bytes: the first len bytes; those past it are 0.
-#[derive(Drop)]
+#[derive(Clone, Copy)]
 pub struct Text {
     pub bytes: [u8; 255],
     pub len: usize,
@@ -21,7 +21,7 @@ pub struct Text {
 
 // The name derived from the name of a jar: nothing left is 9, a name that breaks the rule is 10. The text is empty on a
 // refusal.
-#[derive(Drop)]
+#[derive(Clone, Copy)]
 pub struct Derived {
     pub answer: Named,
     pub text: Text,

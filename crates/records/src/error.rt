@@ -3,7 +3,7 @@ ghost use Rattle.std.specs.Prelude.{◌≡◌};
 ghost use Rattle.records.specs.Error.{number_of};
 
 // What was read.
-#[derive(Drop)]
+#[derive(Clone, Copy)]
 pub enum Input {
     Set,
     Request,
@@ -11,7 +11,7 @@ pub enum Input {
 }
 
 // A refusal with its particulars: offsets are those of a record's mark, or of a name's first byte.
-#[derive(Drop)]
+#[derive(Clone, Copy)]
 pub enum ModuleError {
     // A record that is not well-formed: of which input, and where.
     Malformed(Input, usize),

@@ -7,7 +7,7 @@ use crate::bytes::{be16, part, same, tail};
 use crate::name::name_of;
 
 // A module's position in its set.
-#[derive(Drop)]
+#[derive(Clone, Copy)]
 pub enum Found {
     At(usize),
     Nothing,

@@ -11,7 +11,7 @@ use crate::output::{size, write_records};
 use crate::request::{RecordsAnswer, check_records};
 
 // How many bytes were written, or why none.
-#[derive(Drop)]
+#[derive(Clone, Copy)]
 pub enum Written {
     Bytes(usize),
     Refused(ModuleError),

@@ -8,7 +8,7 @@ use crate::bytes::{before, byte, same};
 use crate::finder::name_at;
 
 // How a name stands to another in byte order.
-#[derive(Drop)]
+#[derive(Clone, Copy)]
 pub enum Standing {
     Same,
     Before,

@@ -8,13 +8,13 @@ use crate::error::Input;
 use crate::name::{after_name, is_list, is_name_list, is_name_version, is_names, name_of};
 
 // A position in a row of records.
-#[derive(Drop)]
+#[derive(Clone, Copy)]
 pub struct Cursor {
     pub at: usize,
 }
 
 // What a cursor finds.
-#[derive(Drop)]
+#[derive(Clone, Copy)]
 pub enum Step {
     // A whole record: its body starts at start and is len bytes long; next is past it.
     Record {
@@ -30,7 +30,7 @@ pub enum Step {
 }
 
 // What a cursor finds of one kind.
-#[derive(Drop)]
+#[derive(Clone, Copy)]
 pub enum Next {
     // The first record of the kind: its body starts at start and is len bytes long; next is past it.
     Body {
@@ -42,7 +42,7 @@ pub enum Next {
 }
 
 // The kinds of record. A set has the first nine, a request the next six.
-#[derive(Drop)]
+#[derive(Clone, Copy)]
 pub enum Kind {
     Module,
     Requires,

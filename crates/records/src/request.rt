@@ -12,21 +12,21 @@ use crate::set::{Checked, SetAnswer, check_set_with, refuse};
 use crate::sorted::INDEX_LENGTH;
 
 // Whether records are well-formed.
-#[derive(Drop)]
+#[derive(Clone, Copy)]
 pub enum RecordsAnswer {
     Good,
     Refused(ModuleError),
 }
 
 // Which of the records that stand at most once were passed: an LM, an ST.
-#[derive(Drop)]
+#[derive(Clone, Copy)]
 pub struct Once {
     pub limited: bool,
     pub statics: bool,
 }
 
 // What one record leads to.
-#[derive(Drop)]
+#[derive(Clone, Copy)]
 pub enum Row {
     Bad,
     // It is passed, and these were.

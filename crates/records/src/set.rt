@@ -19,7 +19,7 @@ pub const MODULE_LIMIT: usize = 512;
 pub const STARTS_LENGTH: usize = 513;
 
 // What one record of a set leads to.
-#[derive(Drop)]
+#[derive(Clone, Copy)]
 pub enum Verdict {
     // The set is refused.
     Stop(ModuleError),
@@ -34,7 +34,7 @@ pub enum Verdict {
 
 // The records so far: how many modules there are, and how many of them stand before the present place; how many places, the first
 // being there before its PL; and whether the last module has its main class.
-#[derive(Drop)]
+#[derive(Clone, Copy)]
 pub struct Seen {
     pub count: usize,
     pub first: usize,
@@ -43,7 +43,7 @@ pub struct Seen {
 }
 
 // How many modules a set has, or why it is refused.
-#[derive(Drop)]
+#[derive(Clone, Copy)]
 pub enum SetAnswer {
     Modules(usize),
     Refused(ModuleError),
@@ -51,7 +51,7 @@ pub enum SetAnswer {
 
 // The answer on a set, with the table of its modules: where each starts, then the set's length, then zeros. All zeros where
 // the set is refused.
-#[derive(Drop)]
+#[derive(Clone, Copy)]
 pub struct Checked {
     pub answer: SetAnswer,
     pub starts: [usize; STARTS_LENGTH],

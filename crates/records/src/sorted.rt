@@ -43,7 +43,7 @@ pub fn position(index: &[usize], m: usize) -> usize
 }
 
 // Where a name stands in a table, or where it belongs: before the entry with this number.
-#[derive(Drop)]
+#[derive(Clone, Copy)]
 pub enum Place {
     There(usize),
     Free(usize),

@@ -25,7 +25,7 @@ use records::record::{Cursor, Kind, Next, find_body};
 use records::set::{block, entry};
 
 // The least of some packages: whether there is one, and where it stands in the set, as an entry of a table of names.
-#[derive(Drop)]
+#[derive(Clone, Copy)]
 pub struct Least {
     pub found: bool,
     pub entry: usize,

@@ -14,7 +14,7 @@ use records::set::{SetAnswer, block, check_set_with};
 use records::sorted::{INDEX_LENGTH, find_in};
 
 // A module's position in its set.
-#[derive(Drop)]
+#[derive(Clone, Copy)]
 pub enum Owner {
     At(usize),
     Nothing,

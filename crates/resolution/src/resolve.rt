@@ -17,7 +17,7 @@ use records::request::check_with;
 use records::set::SetAnswer;
 use records::sorted::INDEX_LENGTH;
 
-#[derive(Drop)]
+#[derive(Clone, Copy)]
 pub enum Outcome {
     Accepted,
     Refused(ModuleError),

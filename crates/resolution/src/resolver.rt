@@ -13,7 +13,7 @@ use records::record::{Cursor, Next};
 use records::set::entry;
 
 // What ends the queue.
-#[derive(Drop)]
+#[derive(Clone, Copy)]
 pub enum Halt {
     // Nothing: it goes on.
     Open,
@@ -24,7 +24,7 @@ pub enum Halt {
 }
 
 // What becomes of a name that a record queues.
-#[derive(Drop)]
+#[derive(Clone, Copy)]
 pub enum Wanted {
     Pass,
     // The module at this position is queued.
@@ -35,7 +35,7 @@ pub enum Wanted {
 
 // An array of 1024 numbers goes with it. Of its first half the positions before head are resolved, in order, and those from there to
 // tail wait; entry 512 + i is 1 where position i is one of them, else 0.
-#[derive(Drop)]
+#[derive(Clone, Copy)]
 pub struct Queue {
     pub head: usize,
     pub tail: usize,
@@ -45,7 +45,7 @@ pub struct Queue {
 // How many modules the set has, which of them are permitted and not hidden, whether a round is being made, and how many modules
 // were resolved before the rounds. `statics`: whether the request has an ST; `limited`: whether it has an LM; `known`: whether
 // tables of names tell which absent names are permitted, and in a round which were met before the rounds.
-#[derive(Drop)]
+#[derive(Clone, Copy)]
 pub struct Phase {
     pub count: usize,
     pub permitted: [u64; 8],

@@ -5,7 +5,7 @@ ghost use Rattle.resolution.specs.Row.{bit, holds, size, Empty, United, Intersec
 
 use crate::word::{word_has, word_with};
 
-#[derive(Drop)]
+#[derive(Clone, Copy)]
 pub struct Row {
     pub words: [u64; 8],
 }

@@ -12,7 +12,7 @@ use records::record::{Cursor, Kind, Next};
 use records::set::entry;
 
 // How many names a table tells, and whether they are all that were to be put there.
-#[derive(Drop)]
+#[derive(Clone, Copy)]
 pub struct Listed {
     pub count: usize,
     pub known: bool,
