@@ -13,6 +13,8 @@
 // manifest name is given, whether the output has only 40 bytes, the number (0 where written), the text of the records or the refusal.
 // An entry is 0, texts of asker, target and package, and the verdicts of access and reflection (0 to 3 in document order); or 1,
 // the text of a package and its owner in two bytes (65,535 none); or 2, the text of a name and the rows of readers and of reads.
+#![tactic(auto)]
+
 mod form;
 mod question;
 mod reads;

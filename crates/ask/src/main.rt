@@ -1,5 +1,7 @@
 // Asks whether a module may see a package of another: resolves the files `set` and `request`, and prints the verdict for access
 // and the one for reflection, or the number of the refusal; and on standard error the absent module, where one is.
+#![tactic(auto)]
+
 use access::access::{AccessAnswer, AccessCheckResult, AccessKind, check_access};
 use libc::{STDERR_FILENO, STDOUT_FILENO};
 use messages::tell_absent;

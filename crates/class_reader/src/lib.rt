@@ -1,4 +1,6 @@
 // Class files: module-info.class to the records of its module.
+#![tactic(auto)]
+
 mod attribute;
 pub mod class_file;
 mod entry;

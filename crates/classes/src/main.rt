@@ -1,6 +1,8 @@
 // Reads the class files of the file `cases`, published, made and damaged ones, and compares each answer and what was written with
 // what is stored beside it. A case is a name with its length byte, a class file with its length in four bytes, the number of the
 // answer (0 where records are written), its offset or length in four bytes, and the records.
+#![tactic(auto)]
+
 use class_reader::class_file::from_class_file;
 use libc::STDOUT_FILENO;
 use records::bytes::{be16, byte, head, part, same, tail};

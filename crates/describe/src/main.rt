@@ -1,4 +1,6 @@
 // Reads a module-info.class and writes the records of its module to a file, which is left alone on a refusal.
+#![tactic(auto)]
+
 use class_reader::class_file::from_class_file;
 use libc::{STDERR_FILENO, STDOUT_FILENO};
 use records::bytes::head;

@@ -1,5 +1,7 @@
 // Writes the records of an automatic module to a file, for the name of its jar or the name that the jar's manifest gives, and the
 // package records in the file `packages`. The file is left alone on a refusal.
+#![tactic(auto)]
+
 use libc::{STDERR_FILENO, STDOUT_FILENO};
 use records::bytes::head;
 use records::error::ModuleError;

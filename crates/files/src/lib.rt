@@ -1,4 +1,6 @@
 // Files of a program's working folder.
+#![tactic(auto)]
+
 ghost use Rattle.io.specs.Counts.{IsPrefixLen};
 
 // How many bytes of a file are in its buffer, and whether the file was read to its end or fills the buffer.

@@ -1,4 +1,6 @@
 // Shows the limits of the inputs: what the checks and the jar reader answer at them, and where.
+#![tactic(auto)]
+
 ghost use Rattle.io.specs.Counts.{IsPrefixLen};
 
 use libc::STDOUT_FILENO;

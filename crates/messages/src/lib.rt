@@ -1,4 +1,6 @@
 // What the programs say on standard error of a refusal.
+#![tactic(auto)]
+
 ghost use Rattle.std.specs.Prelude.{◌≡◌};
 ghost use Rattle.resolution.specs.Absent.{absent_name};
 

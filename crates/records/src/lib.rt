@@ -1,5 +1,7 @@
 // Names and records of Java modules: the form of document 01, its checks, and every question that is asked of one
 // module or one request.
+#![tactic(auto)]
+
 pub mod automatic;
 pub mod bytes;
 pub mod descriptor;

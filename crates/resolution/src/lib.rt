@@ -1,4 +1,6 @@
 // Resolution: which modules of a set start for a request, whom each reads, and who owns a package.
+#![tactic(auto)]
+
 pub mod absent;
 pub mod configuration;
 mod configure;

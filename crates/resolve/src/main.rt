@@ -1,5 +1,7 @@
 // Resolves the set and the request in the files `set` and `request`, and prints the configuration, or the number of the refusal; and on
 // standard error the absent module, where one is, and which modules are hidden.
+#![tactic(auto)]
+
 mod hidden;
 mod names;
 
