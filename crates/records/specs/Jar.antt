@@ -5,7 +5,6 @@ use Rattle.records.specs.Request.{check_records}
 use Rattle.records.specs.Order.{ordered, packages_of, name_in, all_short}
 use Rattle.records.specs.Output.{written, automatic_records}
 use Rattle.records.specs.declared.automatic.Named.{Named}
-use Rattle.records.specs.declared.automatic.Named.TheVariants as Named
 use Rattle.records.specs.declared.error.Input.TheVariants.{Packages}
 use Rattle.records.specs.declared.error.ModuleError.TheVariants.{TooLarge, OutputTooShort}
 use Rattle.records.specs.declared.request.RecordsAnswer.{RecordsAnswer}

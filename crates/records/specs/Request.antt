@@ -7,9 +7,8 @@ use Rattle.records.specs.Name.{java_base, name_of, after_name, list_of, mem_name
 use Rattle.records.specs.Record.{mark_of, body_of, records, mark_for, kind_in, is_body, bodies}
 use Rattle.records.specs.Set.{pick_checked, refused, check_set}
 use Rattle.records.specs.declared.record.Kind.{Kind}
-use Rattle.records.specs.declared.record.Kind.TheVariants.{Module, Requires, Exports, Opens, Uses, Provides, Package, MainClass, Place, Root, LimitModules, AddReads, AddExports, AddOpens, Static, Other}
+use Rattle.records.specs.declared.record.Kind.TheVariants.{Root, LimitModules, AddReads, AddExports, AddOpens, Static}
 use Rattle.records.specs.declared.error.Input.{Input}
-use Rattle.records.specs.declared.error.Input.TheVariants as Input
 use Rattle.records.specs.declared.error.ModuleError.TheVariants.{Malformed, TooLarge}
 use Rattle.records.specs.declared.set.Checked.{Checked}
 use Rattle.records.specs.declared.set.SetAnswer.{SetAnswer}

@@ -13,7 +13,6 @@ use Rattle.records.specs.Output.{written, packages_size, automatic_records}
 use Rattle.records.specs.Jar.{name_for, named_for, records_for, fitted, then_name, then_packages, jar_answer, output_after, JarRead, NamedRead, Ordered, Fitted}
 use Rattle.records.specs.declared.automatic.Derived.{Derived}
 use Rattle.records.specs.declared.automatic.Named.{Named}
-use Rattle.records.specs.declared.automatic.Named.TheVariants as Named
 use Rattle.records.specs.declared.error.Input.TheVariants.{Packages}
 use Rattle.records.specs.declared.error.ModuleError.{ModuleError}
 use Rattle.records.specs.declared.error.ModuleError.TheVariants.{TooLarge, OutputTooShort, InvalidModuleName}

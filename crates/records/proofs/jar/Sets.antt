@@ -18,7 +18,6 @@ use Rattle.records.specs.Order.{ordered, packages_of, all_names}
 use Rattle.records.specs.Output.{record_bytes, name_bytes, module_record, base_record, group, no_targets, automatic_records, package_records}
 use Rattle.records.specs.Jar.{name_for, named_for, records_for, pick_written, fitted, then_name, then_packages, jar_answer}
 use Rattle.records.specs.declared.automatic.Named.{Named}
-use Rattle.records.specs.declared.automatic.Named.TheVariants as Named
 use Rattle.records.specs.declared.error.Input.TheVariants.{Packages}
 use Rattle.records.specs.declared.error.ModuleError.TheVariants.{TooLarge, OutputTooShort, InvalidModuleName, InvalidAutomaticModuleName}
 use Rattle.records.specs.declared.record.Kind.{Kind}

@@ -32,7 +32,6 @@ use Rattle.records.specs.declared.record.Kind.{Kind}
 use Rattle.records.specs.declared.record.Kind.TheVariants.{Module, Requires, Exports, Opens, Uses, Provides, Package, MainClass, Place, Root, LimitModules, AddReads, AddExports, AddOpens, Static, Other}
 use Rattle.records.specs.declared.request.Once.{Once}
 use Rattle.records.specs.declared.request.Row.{Row}
-use Rattle.records.specs.declared.request.Row.TheVariants as Row
 use Rattle.records.specs.declared.request.RecordsAnswer.{RecordsAnswer}
 use Rattle.records.specs.declared.request.RecordsAnswer.TheVariants.{Good, Refused}
 use Rattle.records.proofs.Logic.{clash}

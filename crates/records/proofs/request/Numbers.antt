@@ -14,14 +14,12 @@ use Rattle.records.specs.Record.{mark_of, body_of, records, set_kind, kind_in, i
 use Rattle.records.specs.Request.{check_records, check_records_from, check_inputs, then_request, none_once, row_of, row_on, pick_answer}
 use Rattle.records.specs.Set.{Passed, check_set, check_from, judge_at, pass_at, admit_at, enter_at, is_placed, go_on, pick_checked, pick_verdict, refused, accepted, none_yet, name_at, module_limit}
 use Rattle.records.specs.declared.error.Input.{Input}
-use Rattle.records.specs.declared.error.Input.TheVariants as Input
 use Rattle.records.specs.declared.error.ModuleError.{ModuleError}
 use Rattle.records.specs.declared.error.ModuleError.TheVariants.{Malformed, TooLarge, Repeated}
 use Rattle.records.specs.declared.record.Kind.{Kind}
 use Rattle.records.specs.declared.record.Kind.TheVariants.{Module, Requires, Exports, Opens, Uses, Provides, Package, MainClass, Place, Root, LimitModules, AddReads, AddExports, AddOpens, Static, Other}
 use Rattle.records.specs.declared.request.Once.{Once}
 use Rattle.records.specs.declared.request.Row.{Row}
-use Rattle.records.specs.declared.request.Row.TheVariants as Row
 use Rattle.records.specs.declared.request.RecordsAnswer.{RecordsAnswer}
 use Rattle.records.specs.declared.request.RecordsAnswer.TheVariants as Records
 use Rattle.records.specs.declared.set.Checked.{Checked}

@@ -53,7 +53,7 @@ module _ (s : List ℕ) (n : ℕ) (t : List ℕ) (e : check_set s ≡ record { a
 -- the check of s comes to the records rs at `at` in state p
 pub data Comes (s : List ℕ) : Passed → ℕ → List (List ℕ) → Type 0 where
   first : Comes s none_yet 0 (records s)
-  next : {p p' : Passed} {at : ℕ} {r : List ℕ} {rs : List (List ℕ)} → Comes s p at (r ∷ rs) → Step s p at r p' → Comes s p' (at + length r) rs
+  next : {p : Passed} {at : ℕ} {r : List ℕ} {p' : Passed} {rs : List (List ℕ)} → Comes s p at (r ∷ rs) → Step s p at r p' → Comes s p' (at + length r) rs
 
 -- there it has the rest of the set to decide
 pub comes_check : {s : List ℕ} {p : Passed} {at : ℕ} {rs : List (List ℕ)} → length s ≤ 65535 → Comes s p at rs → check_set s ≡ check_from s p at rs

@@ -271,7 +271,7 @@ stands s = (records-ind (StandsIn s) (stands-stop s) (stands-more s) s).stands 0
 -- from a state, over the records rs at `at`, which end the set, to the last state
 pub data Walk (s : List ℕ) : Passed → ℕ → List (List ℕ) → Passed → Type 0 where
   end : {p : Passed} {at : ℕ} → at ≡ length s → Walk s p at [] p
-  on : {p p' q : Passed} {at : ℕ} {r : List ℕ} {rs : List (List ℕ)} → Here s at r → Step s p at r p' → Walk s p' (at + length r) rs q → Walk s p at (r ∷ rs) q
+  on : {p : Passed} {at : ℕ} {r : List ℕ} {p' q : Passed} {rs : List (List ℕ)} → Here s at r → Step s p at r p' → Walk s p' (at + length r) rs q → Walk s p at (r ∷ rs) q
 
 record Walked (s : List ℕ) (p : Passed) (at : ℕ) (rs : List (List ℕ)) (n : ℕ) (t : List ℕ) : Type 0 where
   last : Passed

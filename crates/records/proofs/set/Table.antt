@@ -63,11 +63,11 @@ is-named h b = rw (name_of h, b.named)
 good-from : {s : List ℕ} {p q : Passed} {at : ℕ} {rs : List (List ℕ)} → Walk s p at rs q → length p.starts ≤ module_limit → GoodFrom s p.starts at rs q.starts
 unfolding starts_from flatten are_named
 good-from (end {p = p} {at = at} e) l = record { all = sym (append-nil p.starts); few = l; used = omega (arith, e); named = refl }
-good-from (on {p = p} {q = q} {at = at} {r = r} {rs = rs} h (begins b) w) l =
+good-from (on {p = p} {at = at} {r = r} {q = q} {rs = rs} h (begins b) w) l =
     adds_one _ p.starts at r rs q.starts (module_is r b.kind) (is-named h b) (good-from w (rw length-append (omega (arith, b.few))))
-good-from (on {p = p} {q = q} {at = at} {r = r} {rs = rs} h (belongs b) w) l = adds_none _ p.starts at r rs q.starts (inner-no_module r b.kind) (good-from w l)
-good-from (on {p = p} {q = q} {at = at} {r = r} {rs = rs} h (mains b) w) l = adds_none _ p.starts at r rs q.starts (main-no_module r b.kind) (good-from w l)
-good-from (on {p = p} {q = q} {at = at} {r = r} {rs = rs} h (enters b) w) l = adds_none _ p.starts at r rs q.starts (place-no_module r b.kind) (good-from w l)
+good-from (on {p = p} {at = at} {r = r} {q = q} {rs = rs} h (belongs b) w) l = adds_none _ p.starts at r rs q.starts (inner-no_module r b.kind) (good-from w l)
+good-from (on {p = p} {at = at} {r = r} {q = q} {rs = rs} h (mains b) w) l = adds_none _ p.starts at r rs q.starts (main-no_module r b.kind) (good-from w l)
+good-from (on {p = p} {at = at} {r = r} {q = q} {rs = rs} h (enters b) w) l = adds_none _ p.starts at r rs q.starts (place-no_module r b.kind) (good-from w l)
 
 -- the offsets of the modules of a set
 unfoldable pub starts_of : List ℕ → List ℕ

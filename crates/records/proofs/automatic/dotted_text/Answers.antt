@@ -1,5 +1,3 @@
-use mir.Facts.{Fits-8_64}
-use Prim.Native.Nat.{◌-◌}
 use borrow.Author.Rules.{rules}
 use Rattle.records.proofs.automatic.Dots.{dots-laws}
 use Rattle.records.proofs.automatic.dotted_text.Goals as goal
@@ -12,9 +10,6 @@ bounds-s-i c = search (dots-laws, rules)
 
 pub overflow_add-i : goal.overflow_add-i
 overflow_add-i c = search (dots-laws, rules)
-
-pub overflow_cast-x : goal.overflow_cast-x
-overflow_cast-x c = Fits-8_64 (c.shared-slice-known2.given _)
 
 pub is_alphanumeric-requires : goal.is_alphanumeric-requires
 is_alphanumeric-requires c = search (dots-laws, rules)

@@ -1,4 +1,3 @@
-use Prim.Native.Nat.{◌-◌}
 use borrow.Author.Rules.{rules}
 use Rattle.records.proofs.automatic.Parts.{parts_laws}
 use Rattle.records.proofs.automatic.validate_module_name.Goals as goal

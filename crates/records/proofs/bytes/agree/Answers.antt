@@ -1,4 +1,3 @@
-use Prim.Native.Nat.{◌-◌}
 use borrow.Author.Rules.{rules}
 use Rattle.records.proofs.bytes.Laws.{agree-laws}
 use Rattle.records.proofs.bytes.agree.Goals as goal

@@ -1,4 +1,3 @@
-use Prim.Native.Nat.{◌-◌}
 use borrow.Author.Rules.{rules}
 use Rattle.records.proofs.bytes.Laws.{differ-laws}
 use Rattle.records.proofs.bytes.differ.Goals as goal

@@ -1,4 +1,3 @@
-use Prim.Native.Nat.{◌-◌}
 use borrow.Author.Rules.{rules}
 use Rattle.records.proofs.bytes.Laws.{same-laws, same_more}
 use Rattle.records.proofs.bytes.same.Goals as goal
@@ -37,7 +36,7 @@ pub loop-i-smaller : goal.loop-i-smaller
 loop-i-smaller c = search (same-laws, rules)
 
 pub loop-i-preserved : goal.loop-i-preserved
-loop-i-preserved c = search (same_more, c.and2.ensures, c.before.same-in5.ensures, c.before.before.before.loop.invariant)
+loop-i-preserved c = search (same_more, c.and-equal.ensures, c.same_in-in-loop-i.ensures, c.loop-i.invariant)
 
 pub returns : goal.returns
 returns c = search (same-laws, rules)

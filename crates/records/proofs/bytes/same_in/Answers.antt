@@ -1,4 +1,3 @@
-use Prim.Native.Nat.{◌-◌}
 use borrow.Author.Rules.{rules}
 use Rattle.records.proofs.bytes.Laws.{same_in_laws}
 use Rattle.records.proofs.bytes.same_in.Goals as goal

@@ -1,4 +1,3 @@
-use Prim.Native.Nat.{◌-◌}
 use borrow.Author.Rules.{rules}
 use Rattle.records.proofs.finder.Laws.{find-laws}
 use Rattle.records.proofs.finder.find.Goals as goal

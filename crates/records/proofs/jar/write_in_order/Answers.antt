@@ -7,6 +7,3 @@ ordered_packages-count-requires c = search (table-ordered, rules)
 
 pub write_ordered-requires : goal.write_ordered-requires
 write_ordered-requires c = search (table-ordered, rules)
-
-pub returns : goal.returns
-returns c = search (table-ordered, rules)

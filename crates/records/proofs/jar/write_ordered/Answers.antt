@@ -15,7 +15,7 @@ pub returns-then-out-n : goal.returns-then-out-n
 returns-then-out-n c = search (fitted-laws, rules)
 
 pub write_records-requires : goal.write_records-requires
-write_records-requires c = (search rules, (search fitted-room, (search rules, search rules)))
+write_records-requires c = record { count_in_bounds = search rules; table_in_bounds = search fitted-room; name_len_bound = search rules; table_value = search rules }
 
 pub returns : goal.returns
 returns c = search (fitted-laws, rules)

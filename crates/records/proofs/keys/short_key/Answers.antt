@@ -2,14 +2,8 @@ use Rattle.records.proofs.keys.Laws.{key-is}
 use borrow.Author.Rules.{rules}
 use Rattle.records.proofs.keys.short_key.Goals as goal
 
-pub short_half-requires : goal.short_half-requires
-short_half-requires c = search (key-is, rules)
-
 pub overflow_mul-result : goal.overflow_mul-result
 overflow_mul-result c = search (key-is, rules)
-
-pub short_half-requires-2 : goal.short_half-requires-2
-short_half-requires-2 c = search (key-is, rules)
 
 pub overflow_add-result : goal.overflow_add-result
 overflow_add-result c = search (key-is, rules)

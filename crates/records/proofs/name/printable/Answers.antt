@@ -1,4 +1,3 @@
-use Prim.Native.Nat.{◌-◌}
 use borrow.Author.Rules.{rules}
 use Rattle.records.proofs.name.Laws.{printable-laws, printable-more}
 use Rattle.records.proofs.name.printable.Goals as goal
@@ -43,7 +42,7 @@ pub loop-i-smaller : goal.loop-i-smaller
 loop-i-smaller c = search (printable-laws, rules)
 
 pub loop-i-preserved : goal.loop-i-preserved
-loop-i-preserved c = search (printable-more, c.and3.ensures, c.before.printable-in7.ensures, c.before.before.before.loop.invariant)
+loop-i-preserved c = search (printable-more, c.and-good.ensures, c.printable_in-in-loop-i.ensures, c.loop-i.invariant)
 
 pub returns : goal.returns
 returns c = search (printable-laws, rules)

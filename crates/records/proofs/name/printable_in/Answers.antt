@@ -1,4 +1,3 @@
-use Prim.Native.Nat.{◌-◌}
 use borrow.Author.Rules.{rules}
 use Rattle.records.proofs.name.Laws.{printable_in_laws}
 use Rattle.records.proofs.name.printable_in.Goals as goal

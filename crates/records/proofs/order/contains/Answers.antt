@@ -2,9 +2,6 @@ use Rattle.records.proofs.order.Laws.{contains-is}
 use borrow.Author.Rules.{rules}
 use Rattle.records.proofs.order.contains.Goals as goal
 
-pub place_by_halves-at-requires : goal.place_by_halves-at-requires
-place_by_halves-at-requires c = search (contains-is, rules)
-
 pub stands_at-requires : goal.stands_at-requires
 stands_at-requires c = search (contains-is, rules)
 

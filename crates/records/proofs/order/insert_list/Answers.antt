@@ -1,4 +1,3 @@
-use Prim.Native.Nat.{◌-◌}
 use borrow.Author.Rules.{rules}
 use Rattle.records.proofs.order.Lists.{list-laws}
 use Rattle.records.proofs.order.insert_list.Goals as goal

@@ -1,4 +1,3 @@
-use Prim.Native.Nat.{◌-◌}
 use borrow.Author.Rules.{rules}
 use Rattle.records.proofs.order.Packages.{names-laws}
 use Rattle.records.proofs.order.insert_names.Goals as goal

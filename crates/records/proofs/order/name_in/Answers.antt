@@ -2,8 +2,5 @@ use Rattle.records.proofs.order.Laws.{name-is}
 use borrow.Author.Rules.{rules}
 use Rattle.records.proofs.order.name_in.Goals as goal
 
-pub part-requires : goal.part-requires
-part-requires c = search (name-is, rules)
-
 pub returns : goal.returns
 returns c = search (name-is, rules)

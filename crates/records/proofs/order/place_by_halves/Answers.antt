@@ -1,4 +1,3 @@
-use Prim.Native.Nat.{◌-◌}
 use borrow.Author.Rules.{rules}
 use Rattle.records.proofs.order.Laws.{place-laws}
 use Rattle.records.proofs.order.place_by_halves.Goals as goal

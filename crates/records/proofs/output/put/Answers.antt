@@ -1,4 +1,3 @@
-use Prim.Native.Nat.{◌-◌}
 use Rattle.records.proofs.output.Written.{put-start, put-more, put-done}
 use Rattle.records.proofs.output.put.Goals as goal
 

@@ -1,4 +1,3 @@
-use Prim.Native.Nat.{◌-◌}
 use borrow.Author.Rules.{rules}
 use Rattle.records.proofs.output.Groups.{group-start, group-ends, group-short, group-room, group-more, group-done}
 use Rattle.records.proofs.output.put_group.Goals as goal

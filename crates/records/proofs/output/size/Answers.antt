@@ -1,4 +1,3 @@
-use Prim.Native.Nat.{◌-◌}
 use Rattle.records.proofs.output.Sizes.{size-start, size-mul, size-term, size-sum, size-more, size-done, size_low}
 use Rattle.records.proofs.output.size.Goals as goal
 
@@ -18,4 +17,4 @@ pub loop-i-preserved : goal.loop-i-preserved
 loop-i-preserved c = search size-more
 
 pub returns : goal.returns
-returns c = (search size-done, search size_low)
+returns c = record { value = search size-done; upper_bound = search size_low }

@@ -3,7 +3,7 @@ use borrow.Author.Rules.{rules}
 use Rattle.records.proofs.output.write_records.Goals as goal
 
 pub put_module-a-requires : goal.put_module-a-requires
-put_module-a-requires c = (search head-room, search rules)
+put_module-a-requires c = record { name_in_bounds = search head-room; name_len_bound = search rules }
 
 pub put_packages-requires : goal.put_packages-requires
 put_packages-requires c = search packages_room

@@ -2,15 +2,6 @@ use Rattle.records.proofs.record.Bodies.{nth-body, nth-nothing}
 use borrow.Author.Rules.{rules}
 use Rattle.records.proofs.record.body.Goals as goal
 
-pub nth-requires : goal.nth-requires
-nth-requires c = search (nth-body, nth-nothing, rules)
-
-pub part-requires : goal.part-requires
-part-requires c = search (nth-body, nth-nothing, rules)
-
-pub slice_bounds-result-end : goal.slice_bounds-result-end
-slice_bounds-result-end c = search (nth-body, nth-nothing, rules)
-
 pub returns-in-Body : goal.returns-in-Body
 returns-in-Body c = search (nth-body, nth-nothing, rules)
 

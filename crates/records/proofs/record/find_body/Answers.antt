@@ -1,4 +1,3 @@
-use Prim.Native.Nat.{◌-◌}
 use borrow.Author.Rules.{rules}
 use Rattle.records.proofs.record.Search.{first-laws}
 use Rattle.records.proofs.record.find_body.Goals as goal

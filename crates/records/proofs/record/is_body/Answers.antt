@@ -3,66 +3,6 @@ use Rattle.records.proofs.record.Marks.{body-told}
 use borrow.Author.Rules.{rules}
 use Rattle.records.proofs.record.is_body.Goals as goal
 
-pub is_module-requires : goal.is_module-requires
-unfolding is_body
-is_module-requires c = search (body-told, rules)
-
-pub is_requires-requires : goal.is_requires-requires
-unfolding is_body
-is_requires-requires c = search (body-told, rules)
-
-pub is_name_list-requires : goal.is_name_list-requires
-unfolding is_body
-is_name_list-requires c = search (body-told, rules)
-
-pub is_name_list-requires-in-Opens : goal.is_name_list-requires-in-Opens
-unfolding is_body
-is_name_list-requires-in-Opens c = search (body-told, rules)
-
-pub is_names-requires : goal.is_names-requires
-unfolding is_body
-is_names-requires c = search (body-told, rules)
-
-pub is_name_list-requires-in-Provides : goal.is_name_list-requires-in-Provides
-unfolding is_body
-is_name_list-requires-in-Provides c = search (body-told, rules)
-
-pub is_names-requires-in-Package : goal.is_names-requires-in-Package
-unfolding is_body
-is_names-requires-in-Package c = search (body-told, rules)
-
-pub is_names-requires-in-MainClass : goal.is_names-requires-in-MainClass
-unfolding is_body
-is_names-requires-in-MainClass c = search (body-told, rules)
-
-pub is_names-requires-in-Place : goal.is_names-requires-in-Place
-unfolding is_body
-is_names-requires-in-Place c = search (body-told, rules)
-
-pub is_names-requires-in-Root : goal.is_names-requires-in-Root
-unfolding is_body
-is_names-requires-in-Root c = search (body-told, rules)
-
-pub is_list-requires : goal.is_list-requires
-unfolding is_body
-is_list-requires c = search (body-told, rules)
-
-pub is_names-requires-in-AddReads : goal.is_names-requires-in-AddReads
-unfolding is_body
-is_names-requires-in-AddReads c = search (body-told, rules)
-
-pub is_names-requires-in-AddExports : goal.is_names-requires-in-AddExports
-unfolding is_body
-is_names-requires-in-AddExports c = search (body-told, rules)
-
-pub is_names-requires-in-AddOpens : goal.is_names-requires-in-AddOpens
-unfolding is_body
-is_names-requires-in-AddOpens c = search (body-told, rules)
-
-pub is_names-requires-in-Static : goal.is_names-requires-in-Static
-unfolding is_body
-is_names-requires-in-Static c = search (body-told, rules)
-
 pub returns-in-Module : goal.returns-in-Module
 unfolding is_body
 returns-in-Module c = search (body-told, rules)

@@ -3,14 +3,6 @@ use Rattle.records.proofs.record.Marks.{in_told, in-package, in-other}
 use borrow.Author.Rules.{rules}
 use Rattle.records.proofs.record.kind_in.Goals as goal
 
-pub set_kind-requires : goal.set_kind-requires
-unfolding kind_in
-set_kind-requires c = search (in_told, in-package, in-other, rules)
-
-pub request_kind-requires : goal.request_kind-requires
-unfolding kind_in
-request_kind-requires c = search (in_told, in-package, in-other, rules)
-
 pub returns-then-mark-eq20555 : goal.returns-then-mark-eq20555
 unfolding kind_in
 returns-then-mark-eq20555 c = search (in_told, in-package, in-other, rules)

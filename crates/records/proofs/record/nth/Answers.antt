@@ -1,4 +1,3 @@
-use Prim.Native.Nat.{◌-◌}
 use borrow.Author.Rules.{rules}
 use Rattle.records.proofs.record.Bodies.{nth-laws}
 use Rattle.records.proofs.record.nth.Goals as goal

@@ -1,4 +1,3 @@
-use Prim.Native.Nat.{◌-◌}
 use borrow.Author.Rules.{rules}
 use Rattle.records.proofs.request.Laws.{check-laws}
 use Rattle.records.proofs.request.check_records.Goals as goal

@@ -2,11 +2,5 @@ use Rattle.records.proofs.sorted.Index.{indexed-none}
 use borrow.Author.Rules.{rules}
 use Rattle.records.proofs.set.check_set.Goals as goal
 
-pub slice_bounds-check_set_with-end : goal.slice_bounds-check_set_with-end
-slice_bounds-check_set_with-end c = search (indexed-none, rules)
-
 pub check_set_with-requires : goal.check_set_with-requires
 check_set_with-requires c = search (indexed-none, rules)
-
-pub returns : goal.returns
-returns c = search (indexed-none, rules)

@@ -1,4 +1,3 @@
-use Prim.Native.Nat.{◌-◌}
 use borrow.Author.Rules.{rules}
 use Rattle.records.proofs.set.Laws.{check-laws, check_module, check-first, check-enter}
 use Rattle.records.proofs.set.check_set_with.Goals as goal

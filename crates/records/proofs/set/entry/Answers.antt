@@ -10,6 +10,3 @@ offset_bounds-starts-i c = search (entry-none, rules)
 
 pub bounds-starts-i : goal.bounds-starts-i
 bounds-starts-i c = search (entry-none, rules)
-
-pub returns : goal.returns
-returns c = search (entry-none, rules)

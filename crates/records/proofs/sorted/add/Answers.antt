@@ -12,7 +12,7 @@ pub place_of-requires : goal.place_of-requires
 place_of-requires c = search (add-laws, rules)
 
 pub put-requires : goal.put-requires
-put-requires c = (search add-long, (search add-place, (search add-few, search rules)))
+put-requires c = record { index_len = search add-long; at_bound = search add-place; index_bound = search add-few; i_lt_module_limit = search rules }
 
 pub returns-in-There : goal.returns-in-There
 returns-in-There c = search (add-laws, rules)

@@ -15,7 +15,7 @@ pub by_entry-requires : goal.by_entry-requires
 by_entry-requires c = search (entry-laws, rules)
 
 pub settle_entry-requires : goal.settle_entry-requires
-settle_entry-requires c = (search entry-long, (search entry-small, (search entry-start, (search entry-alike, search entry_length))))
+settle_entry-requires c = record { index_len = search entry-long; i_lt_module_limit = search entry-small; i_in_bounds = search entry-start; alike = search entry-alike; i_value = search entry_length }
 
 pub returns-in-Same : goal.returns-in-Same
 returns-in-Same c = search (entry-laws, rules)

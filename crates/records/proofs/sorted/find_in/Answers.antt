@@ -6,7 +6,7 @@ pub bounds-index-1537 : goal.bounds-index-1537
 bounds-index-1537 c = search (find-laws, rules)
 
 pub seek-requires : goal.seek-requires
-seek-requires c = (search rules, (search rules, search find_first))
+seek-requires c = record { count_in_bounds = search rules; indexed = search rules; first_bound = search find_first }
 
 pub overflow_add-result : goal.overflow_add-result
 overflow_add-result c = search (find-laws, rules)
@@ -18,7 +18,7 @@ pub bounds-index-m : goal.bounds-index-m
 bounds-index-m c = search (find-laws, rules)
 
 pub returns-in-There : goal.returns-in-There
-returns-in-There c = (search find-there, search find-there-walk)
+returns-in-There c = record { value = search find-there; value_2 = search find-there-walk }
 
 pub returns-in-Free : goal.returns-in-Free
 returns-in-Free c = search (find-laws, rules)

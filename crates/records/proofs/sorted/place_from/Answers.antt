@@ -9,10 +9,10 @@ pub returns-then-h-n : goal.returns-then-h-n
 returns-then-h-n c = search (place-laws, rules)
 
 pub compare_entry-requires : goal.compare_entry-requires
-compare_entry-requires c = (search rules, (search rules, (search place-inner, (search rules, search rules))))
+compare_entry-requires c = record { count_in_bounds = search rules; indexed = search rules; m_bound = search place-inner; key = search rules; key_2 = search rules }
 
 pub seek-requires : goal.seek-requires
-seek-requires c = (search rules, (search rules, search place-half))
+seek-requires c = record { count_in_bounds = search rules; indexed = search rules; first_bound = search place-half }
 
 pub returns-in-Same : goal.returns-in-Same
 returns-in-Same c = search (place-laws, rules)

@@ -33,7 +33,7 @@ pub by_entry-requires : goal.by_entry-requires
 by_entry-requires c = search (seek-laws, rules)
 
 pub settle_entry-requires : goal.settle_entry-requires
-settle_entry-requires c = (search seek-room, (search seek-entry, (search seek-begins, (seek-alike _ _ _ _ _ _ _ _ _ _ _ _ c.before.before.before.before.before.before.loop.invariant (search rules) _ c.before.before.by-entry.ensures (search rules), seek-length _ _ _ _ _ _ _ _ _ _ _ _ c.before.before.before.before.before.before.loop.invariant (search rules)))))
+settle_entry-requires c = record { index_len = search seek-room; i_lt_module_limit = search seek-entry; i_in_bounds = search seek-begins; alike = seek-alike _ _ _ _ _ _ _ _ _ _ _ _ c.loop-left.invariant (search rules) _ c.by_entry.ensures (search rules); i_value = seek-length _ _ _ _ _ _ _ _ _ _ _ _ c.loop-left.invariant (search rules) }
 
 pub returns-in-Same-settle_entry : goal.returns-in-Same-settle_entry
 returns-in-Same-settle_entry c = search (seek-laws, rules)

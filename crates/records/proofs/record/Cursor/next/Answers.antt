@@ -1,4 +1,3 @@
-use Prim.Native.Nat.{◌-◌}
 use borrow.Author.Rules.{rules}
 use Rattle.records.proofs.record.Bodies.{next-laws}
 use Rattle.records.proofs.record.Cursor.next.Goals as goal
