@@ -15,11 +15,10 @@ use Rattle.records.specs.Set.{block_at, modules, check_set}
 use Rattle.records.specs.declared.record.Next.{Next}
 use Rattle.records.specs.declared.record.Next.TheVariants.{Body, Nothing}
 use Rattle.records.specs.declared.record.Kind.{Kind}
-use Rattle.records.specs.declared.record.Kind.TheVariants as Kind
 use Rattle.records.specs.declared.set.Checked.{Checked}
 use Rattle.records.specs.declared.set.SetAnswer.{SetAnswer}
 use Rattle.records.specs.declared.set.SetAnswer.TheVariants.{Modules}
-use Rattle.records.proofs.Logic.{by, true≠false}
+use Rattle.records.proofs.Logic.{true≠false}
 use Rattle.records.proofs.record.Bodies.{nth-body, nth-nothing}
 use Rattle.records.proofs.set.Blocks.{GoodSet, good-set}
 use Rattle.resolution.specs.Lists.{Name}

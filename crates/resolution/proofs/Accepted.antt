@@ -6,7 +6,7 @@ use mathlib.Core.Bool.{Bool, true, false}
 use mathlib.Core.Option.{Option, none, some}
 use mathlib.Core.List.Memᴰ
 use mathlib.Core.List.{List, [], ◌∷◌, ◌++◌, map}
-use mathlib.Core.Logic.{inl, inr, ⊎_elim}
+use mathlib.Core.Logic.{inl, ⊎_elim}
 use lib.ListN.{length}
 use Rattle.records.proofs.bytes.Laws.{same_refl}
 use Rattle.records.proofs.Logic.{and_both, and_left, and_right, by, or_left, true≠false}

@@ -14,14 +14,13 @@ use Rattle.records.specs.Bytes.{same_bytes}
 use Rattle.records.specs.Name.{mem_name, name_of}
 use Rattle.records.specs.Record.{records, bodies, bodies_in, body_of, is_of, nth_in, first_in, begins}
 use Rattle.records.specs.Descriptor.{Descriptor, descriptor_of, requirement_of}
-use Rattle.records.specs.Request.{Request, request_of, is_permitted, check_inputs}
+use Rattle.records.specs.Request.{request_of, is_permitted, check_inputs}
 use Rattle.records.specs.Set.{block_at, modules, check_set}
 use Rattle.records.specs.declared.error.Input.TheVariants as Input
 use Rattle.records.specs.declared.error.ModuleError.TheVariants.{OutputTooShort}
 use Rattle.records.specs.declared.error.ModuleError.{ModuleError}
 use Rattle.records.specs.declared.record.Next.{Next}
 use Rattle.records.specs.declared.record.Kind.{Kind}
-use Rattle.records.specs.declared.record.Kind.TheVariants as Kind
 use Rattle.records.specs.declared.set.Checked.{Checked}
 use Rattle.records.specs.declared.set.SetAnswer.{SetAnswer}
 use Rattle.records.specs.declared.set.SetAnswer.TheVariants as Set

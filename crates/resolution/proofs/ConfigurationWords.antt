@@ -1,13 +1,13 @@
 -- The words of a configuration: they say what they were made of, and words that say it, with all other bits 0, are they.
 use mathlib.Core.Path.{◌≡◌, refl, sym, ap, ap₂, ◌∙◌}
-use mathlib.Core.Bool.{Bool, true, false, ◌&&◌, and-false}
+use mathlib.Core.Bool.{Bool, true, false}
 use mathlib.Core.List.{List, [], ◌∷◌, ◌++◌, append_assoc}
 use Prim.Native.Nat.{ℕ, zero, suc, ◌+◌, ◌*◌, ◌/◌, ◌%◌, ◌^◌, ◌≤◌, ◌<◌}
 use native.Mathlib.Omega.{arith}
 use native.Mathlib.Nat.{add-zero}
 use lib.Dec.{ltb}
-use lib.ListN.{length, get_or, take, drop, length-append, length-drop, get_or-append, get_or-eq_default}
-use lib.Seq.{split_at_lem, length-take-le, get_or-take, get_or-drop, get_or-append-add, take_at, drop_at, drop-drop, take_all}
+use lib.ListN.{length, get_or, take, drop, length-append, length-drop, get_or-append}
+use lib.Seq.{split_at, length-take-le, get_or-take, get_or-drop, get_or-append-add, take_at, drop_at, drop-drop}
 use borrow.Author.Tests.{ltb-true, ltb-false, lt-ltb, le-ltb}
 use borrow.Rule.Slice.PartMut.{put_mid}
 use Rattle.records.specs.Output.{written}
@@ -24,7 +24,6 @@ use Rattle.resolution.proofs.Words.{words_are}
 use Rattle.resolution.proofs.configuration.Laws.{take_past, member-none, edge_none, unnamed-none}
 use Rattle.resolution.proofs.graph.Edges.{edge-is, edge-past}
 use Rattle.resolution.proofs.row.Bits.{bit-low, bit-zero}
-use Rattle.resolution.proofs.row.Counts.{one-le}
 
 module _ (e : ℕ → ℕ → Bool) (u : ℕ → Bool) where
   -- ---- the rows made of tests
@@ -101,7 +100,7 @@ module _ (e : ℕ → ℕ → Bool) (u : ℕ → Bool) where
   rows_are zero i [] m f h w = refl
   rows_are zero i (x ∷ g) m f h w = absurd (omega arith)
   rows_are (suc n) i g m f h w =
-      split_at_lem g 8 0 (omega (arith, m))
+      split_at g 8 0 (omega (arith, m))
       ∙ ap₂ (λ (a b : List ℕ). a ++ b) (first-row i g (omega (arith, m)) f (λ j l. h 0 j (omega arith) l ∙ ap (λ (x : ℕ). e x j) (add-zero i)))
       (ap₂ (λ (x : ℕ) (l : List ℕ). x ∷ l) (first-ninth i g (w 0 (omega arith) ∙ ap (λ (x : ℕ). one (u x)) (add-zero i)))
       (rows_are n (suc i) (drop 9 g) (omega (arith, length-drop 9 g, m)) (λ k. omega (arith, get_or-drop 9 g k 0, f (9 + k)))

@@ -6,7 +6,7 @@ use mathlib.Core.List.{List, [], ◌∷◌}
 use Rattle.records.specs.Bytes.{same_bytes}
 use Rattle.records.specs.Descriptor.{Descriptor}
 use Rattle.records.specs.Name.{mem_name}
-use Rattle.resolution.specs.Lists.{Mem, Name, any, first}
+use Rattle.resolution.specs.Lists.{Mem, Name, any}
 use Rattle.resolution.specs.Resolution.{find, has_module, names}
 use Rattle.resolution.proofs.Lists.{any_in, any_out, first_in, first_out, same→, →same}
 

@@ -199,6 +199,13 @@ module _ (s : List Descriptor) (rq : Request) where
         fresh-length (candidates s rq) met,
       )
 
+  -- the same of the state in which the round's queue begins
+  pub size-round : (ms : List Descriptor) (met met₂ : List Name) (q : List Item)
+      → enqueue false s rq provider (providers s rq ms) 0 met [] ≡ enqueued met₂ q
+      → size (record { resolved = ms; met = met₂; queue = q }) ≤ length (candidates s rq)
+  unfolding size
+  size-round ms met met₂ q e = round-size ms met met₂ q e
+
   pub round-out : (st : State) → round s rq st ≡ fail ran_out → ⊥
   unfolding round round_on ran size
   round-out st h = turned _ refl h

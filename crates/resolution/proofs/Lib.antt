@@ -30,7 +30,7 @@ pub mod WordBits
 pub mod Words
 pub mod ConfigurationWords
 pub mod Observed
-pub mod Hidden
+pub mod HiddenModules
 pub mod PackageOwner
 pub mod Refusals
 pub mod Absence

@@ -14,13 +14,12 @@ use Rattle.records.specs.Request.{Request, request_of, check_inputs}
 use Rattle.records.specs.Set.{modules, check_set}
 use Rattle.records.specs.declared.error.ModuleError.{ModuleError}
 use Rattle.records.specs.declared.set.Checked.{Checked}
-use Rattle.records.specs.declared.set.SetAnswer.{SetAnswer}
 use Rattle.records.specs.declared.set.SetAnswer.TheVariants.{Modules}
 use Rattle.records.proofs.Logic.{clash, and_left, and_both, and_split, by}
 use Rattle.records.proofs.bytes.Laws.{same_refl}
 use Rattle.records.proofs.set.Blocks.{GoodSet, good-set}
 use Rattle.resolution.specs.Lists.{Name, Mem}
-use Rattle.resolution.specs.Loop.{Result, done}
+use Rattle.resolution.specs.Loop.{done}
 use Rattle.resolution.specs.Owner.{owner, named}
 use Rattle.resolution.specs.Owner as Owned
 use Rattle.resolution.specs.Resolution.{find, has_module, index_of, Refusal, State}

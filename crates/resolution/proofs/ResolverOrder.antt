@@ -15,7 +15,6 @@ use Rattle.records.specs.Record.{body_of, is_of}
 use Rattle.records.specs.Request.{request_of, is_permitted}
 use Rattle.records.specs.Set.{name_at}
 use Rattle.records.specs.declared.error.Input.{Input}
-use Rattle.records.specs.declared.error.Input.TheVariants as Input
 use Rattle.records.specs.declared.error.ModuleError.{ModuleError}
 use Rattle.records.specs.declared.error.ModuleError.TheVariants.{JavaBaseNotFound}
 use Rattle.records.specs.declared.finder.Found.{Found}
@@ -25,7 +24,6 @@ use Rattle.records.proofs.finder.Modules.{found_at}
 use Rattle.records.specs.Descriptor.{requirement_of}
 use Rattle.resolution.specs.Resolution.{leads}
 use Rattle.resolution.specs.declared.resolver.Halt.{Halt}
-use Rattle.resolution.specs.declared.resolver.Halt.TheVariants as Halt
 use Rattle.resolution.specs.declared.resolver.Wanted.{Wanted}
 use Rattle.resolution.specs.declared.resolver.Wanted.TheVariants.{Pass, Add, Stop, Refuse}
 use Rattle.resolution.specs.Lists.{Mem, Name, any}

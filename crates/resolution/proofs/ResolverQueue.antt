@@ -25,9 +25,8 @@ use Rattle.records.specs.declared.record.Next.{Next}
 use Rattle.records.proofs.Logic.{clash, by, true≠false}
 use Rattle.records.proofs.set.Blocks.{GoodSet}
 use Rattle.resolution.specs.declared.resolver.Halt.{Halt}
-use Rattle.resolution.specs.declared.resolver.Halt.TheVariants as Halt
 use Rattle.resolution.specs.declared.resolver.Wanted.{Wanted}
-use Rattle.resolution.specs.declared.resolver.Wanted.TheVariants.{Pass, Add, Stop}
+use Rattle.resolution.specs.declared.resolver.Wanted.TheVariants.{Pass, Add}
 use Rattle.resolution.specs.Lists.{Mem, Name, any}
 use Rattle.resolution.specs.Positions.{module_at, is_visible}
 use Rattle.resolution.specs.Resolution.{Item, QueuedBy, choose, find, has_module, index_of, java_base_not_found, module_not_found, names, leads, pass}

@@ -1,12 +1,12 @@
 -- The positional form runs as the short form does: the test of the packages, one turn, and the queue until none waits.
-use mathlib.Core.Path.{◌≡◌, refl, sym, ap, subst}
+use mathlib.Core.Path.{◌≡◌, refl, ap, subst}
 use Prim.Native.Nat.{ℕ, zero, suc, ◌+◌, ◌<◌}
 use native.Mathlib.Omega.{arith}
 use mathlib.Core.Bool.{Bool, true, false, ◌&&◌, ◌||◌, cond, and-false}
 use mathlib.Core.Option.{Option, none, some}
 use mathlib.Core.List.Memᴰ
 use mathlib.Core.List.{List, [], ◌∷◌, ◌++◌, map, append_assoc, append-nil}
-use lib.ListN.{length, get_or, length-append}
+use lib.ListN.{length, length-append}
 use lib.Seq.{take-append_seam, get_or-append_seam}
 use borrow.Author.Tests.{eq-eqb, ne_eqb}
 use Rattle.records.specs.Bytes.{before_bytes}
@@ -16,14 +16,11 @@ use Rattle.records.specs.Descriptor.{Descriptor, requirement_of, descriptor_of}
 use Rattle.records.specs.Request.{request_of}
 use Rattle.records.specs.Set.{modules}
 use Rattle.records.specs.declared.error.Input.{Input}
-use Rattle.records.specs.declared.error.Input.TheVariants as Input
 use Rattle.records.specs.declared.error.ModuleError.{ModuleError}
 use Rattle.records.specs.declared.error.ModuleError.TheVariants.{ModuleNotFound}
 use Rattle.records.specs.declared.record.Kind.{Kind}
-use Rattle.records.specs.declared.record.Kind.TheVariants as Kind
 use Rattle.records.proofs.Logic.{clash, true≠false}
 use Rattle.resolution.specs.declared.resolver.Halt.{Halt}
-use Rattle.resolution.specs.declared.resolver.Halt.TheVariants as Halt
 use Rattle.resolution.specs.Lists.{Mem, Name, any, keep, first}
 use Rattle.resolution.specs.Loop.{Result, Step, after, done, fail, failed, go, loop, stop}
 use Rattle.resolution.specs.Owner.{least, lesser, owner_in, shared}

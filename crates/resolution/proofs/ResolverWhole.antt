@@ -116,11 +116,12 @@ module _ (s q : List ℕ) (n : ℕ) (t ws : List ℕ) (g : Given s q n t ws) whe
       ran l (failed x) room e h = rw (rounds-refused s q n t ws g true l.order (suc n) l (error_of s q x) e) e
       ran l (done u) room e h =
           let ps : List ℕ = e.resolved in
-          rw (e.line_is, e.state_is)
+          rw e.line_is
+          (subst (λ (v : Short). Ended s q (rounds (line_at ps [] Halt.Open)) (short_rounds S rq (done v))) (sym e.state_is)
           (subst (λ (m : ℕ). Ended s q (rounds_at (inputs s q n t ws true (ps ++ [])) (suc m) (line_at ps [] Halt.Open)) (short_rounds S rq (done (short_state s ps [] none)))) (set-length s n t g.good)
           (rounds_are s q n t ws g (ps ++ []) (met_before rq (modules_at s ps))
           (λ x. met-is s q n t ws g true (ps ++ []) (subst (Within s) (sym (append-nil ps)) e.within) x ∙ ap (λ (z : List ℕ). met_before rq (modules_at s z) x) (append-nil ps))
-          (suc (length S)) ps e.within (room u ps refl e.state_is) (λ y. h (rw e.state_is y))))
+          (suc (length S)) ps e.within (room u ps refl e.state_is) (λ y. h (subst (λ (v : Short). short_rounds S rq (done v) ≡ failed ran_out) (sym e.state_is) y)))))
 
       turned : (l : Line) (z : Lined) → started ≡ z → Follows s q false [] l z → (short_started S rq z ≡ failed ran_out → ⊥)
           → Ended s q (rounds (run_at w (suc n) l)) (short_started S rq z)

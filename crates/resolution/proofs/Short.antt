@@ -24,7 +24,7 @@ use Rattle.resolution.proofs.Enqueue.{enqueue-inv, item, met-cases, not_static_q
 use Rattle.resolution.proofs.Find.{has-find}
 use Rattle.resolution.proofs.Observable.{observable-found}
 use Rattle.resolution.proofs.Follow.{Good, Past, run-follows, run_past}
-use Rattle.resolution.proofs.Fuel.{providers_in, round-size, rounds_fuel, seeds-size, size}
+use Rattle.resolution.proofs.Fuel.{providers_in, rounds_fuel, seeds-size, size, size-round}
 use Rattle.resolution.proofs.Line.{Ready, Whatever, past-add, put-empty, short-enqueue-view, view}
 use Rattle.resolution.proofs.Lists.{any_in, any_out, keep_out, map-out, mem_name_in, mem_name-out, same→, →same}
 use Rattle.resolution.proofs.Loop.{Follow, fail≠go, loop-inv, loop-view, stop≠go}
@@ -202,7 +202,7 @@ module _ (s : List Descriptor) (rq : Request) (old : Name → Bool) where
           let good : Good s rq true old st₂ = (start st g met (a ∷ q) e, round-past st.resolved st.met met (a ∷ q) e g.1) in
           let line : short_round_from old s rq st.resolved (line_of s rq (a ∷ q)).todo (line_of s rq (a ∷ q)).halt ≡ short_ran (short_run true old s rq (short_of s rq st₂))
           = from-line st.resolved (line_of s rq (a ∷ q)).todo (line_of s rq (a ∷ q)).halt f.1 (line_of s rq q).todo (head-waits a q f.1 f.0 f.2) in
-          let run = run-follows s rq true old st₂ good (unfold size in round-size s rq st.resolved st.met met (a ∷ q) e) in
+          let run = run-follows s rq true old st₂ good (size-round s rq st.resolved st.met met (a ∷ q) e) in
           subst (λ (z : Step Short Refusal). Follow (short_of s rq) w z (ran (run_queue true s rq st₂))) (sym (line ∙ ap short_ran run)) (ended (run_queue true s rq st₂))
 
       turned : (z : Lined) (r : Enqueued) → enqueue false s rq provider (providers s rq st.resolved) 0 st.met [] ≡ r → z ≡ view s rq r

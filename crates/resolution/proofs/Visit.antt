@@ -11,7 +11,6 @@ use Rattle.records.specs.Name.{java_base, mem_name}
 use Rattle.records.specs.Descriptor.{Descriptor}
 use Rattle.records.proofs.Logic.{by, true≠false}
 use Rattle.resolution.specs.Lists.{Mem, Name}
-use Rattle.resolution.specs.Loop.{after}
 use Rattle.resolution.specs.Reach.{closure}
 use Rattle.resolution.specs.Reads.{direct_reads, implied_reads, required_names, transitive_of}
 use Rattle.resolution.specs.Visit.{each, visit, visited}

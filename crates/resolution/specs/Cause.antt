@@ -9,7 +9,6 @@ use Rattle.records.specs.Descriptor.{Requirement}
 use Rattle.records.specs.Request.{request_of, is_permitted, check_inputs}
 use Rattle.records.specs.Set.{modules}
 use Rattle.records.specs.declared.error.Input.{Input}
-use Rattle.records.specs.declared.error.Input.TheVariants as Input
 use Rattle.records.specs.declared.error.ModuleError.{ModuleError}
 use Rattle.records.specs.declared.error.ModuleError.TheVariants.{OutputTooShort, ModuleNotFound, JavaBaseNotFound, SplitPackage}
 use Rattle.records.specs.declared.set.SetAnswer.TheVariants as Set

@@ -8,7 +8,6 @@ use Rattle.records.specs.Record.{bodies}
 use Rattle.records.specs.declared.finder.Found.{Found}
 use Rattle.records.specs.declared.finder.Found.TheVariants.{At, Nothing}
 use Rattle.records.specs.declared.record.Kind.{Kind}
-use Rattle.records.specs.declared.record.Kind.TheVariants as Kind
 use Rattle.resolution.specs.Lists.{Name, Mem, any, keep, first}
 use Rattle.resolution.specs.Owner.{least, lesser}
 use Rattle.resolution.specs.Row.{holds}

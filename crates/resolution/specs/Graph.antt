@@ -1,6 +1,6 @@
 -- A graph on positions below 512, as rows of nine words: eight of its edges, and one whose lowest bit is an edge to ALL-UNNAMED; and
 -- what a depth-first search by marks leaves.
-use Rattle.std.specs.Prelude.{◌≡◌, Bool, true, false, not, ◌||◌, ◌&&◌, List, ◌⊎◌, ℕ, ◌+◌, ◌*◌, ◌/◌, ◌%◌, ◌≤◌, ◌<◌, eqb, ltb, get_or}
+use Rattle.std.specs.Prelude.{◌≡◌, Bool, true, false, not, ◌&&◌, List, ◌⊎◌, ℕ, ◌+◌, ◌*◌, ◌/◌, ◌%◌, ◌<◌, ltb, get_or}
 use Rattle.resolution.specs.Row.{bit, holds, count_below}
 
 -- 512 rows of nine words

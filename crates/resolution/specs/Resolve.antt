@@ -10,7 +10,6 @@ use Rattle.records.specs.declared.error.Input.TheVariants as Input
 use Rattle.records.specs.declared.error.ModuleError.{ModuleError}
 use Rattle.records.specs.declared.error.ModuleError.TheVariants.{TooLarge, ModuleNotFound, JavaBaseNotFound, SplitPackage}
 use Rattle.records.specs.declared.record.Next.{Next}
-use Rattle.records.specs.declared.record.Next.TheVariants as Next
 use Rattle.records.specs.declared.record.Kind.TheVariants as Kind
 use Rattle.records.specs.declared.set.SetAnswer.{SetAnswer}
 use Rattle.records.specs.declared.set.SetAnswer.TheVariants as Set

@@ -10,20 +10,17 @@ use Rattle.records.specs.Request.{request_of, is_permitted}
 use Rattle.records.specs.Set.{name_at, block_at}
 use Rattle.records.specs.Finder.{find_name}
 use Rattle.records.specs.declared.error.Input.{Input}
-use Rattle.records.specs.declared.error.Input.TheVariants as Input
 use Rattle.records.specs.declared.error.ModuleError.{ModuleError}
 use Rattle.records.specs.declared.error.ModuleError.TheVariants.{ModuleNotFound, JavaBaseNotFound, SplitPackage}
 use Rattle.records.specs.declared.finder.Found.{Found}
 use Rattle.records.specs.declared.finder.Found.TheVariants.{At, Nothing}
 use Rattle.records.specs.declared.record.Kind.{Kind}
-use Rattle.records.specs.declared.record.Kind.TheVariants as Kind
 use Rattle.resolution.specs.Lists.{Name, any, keep, first}
 use Rattle.resolution.specs.Owner.{least}
 use Rattle.resolution.specs.Resolution.{leads}
 use Rattle.resolution.specs.Row.{holds, one, count_below}
 use Rattle.resolution.specs.Resolve.{body_start}
 use Rattle.resolution.specs.declared.resolver.Halt.{Halt}
-use Rattle.resolution.specs.declared.resolver.Halt.TheVariants as Halt
 use Rattle.resolution.specs.declared.resolver.Wanted.{Wanted}
 use Rattle.resolution.specs.declared.resolver.Wanted.TheVariants.{Pass, Add, Stop, Refuse}
 use Rattle.resolution.specs.declared.resolver.Queue.{Queue}

@@ -6,7 +6,6 @@ use Rattle.records.specs.Order.{name_in, is_ordered}
 use Rattle.records.specs.Record.{bodies}
 use Rattle.records.specs.Set.{block_at}
 use Rattle.records.specs.declared.record.Kind.{Kind}
-use Rattle.records.specs.declared.record.Kind.TheVariants as Kind
 use Rattle.resolution.specs.Lists.{Name, any}
 use Rattle.resolution.specs.Resolver.{requires_name}
 use Rattle.resolution.specs.declared.table.Listed.{Listed}

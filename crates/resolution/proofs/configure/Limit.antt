@@ -18,7 +18,6 @@ use Rattle.records.specs.declared.finder.Found.TheVariants.{At, Nothing}
 use Rattle.records.specs.declared.record.Cursor.{Cursor}
 use Rattle.records.specs.declared.record.Kind.TheVariants as Kind
 use Rattle.records.specs.declared.record.Next.{Next}
-use Rattle.records.specs.declared.record.Next.TheVariants as Next
 use Rattle.records.specs.declared.set.SetAnswer.TheVariants.{Modules}
 use Rattle.records.proofs.Logic.{by, true≠false}
 use Rattle.records.proofs.bytes.Laws.{same-eq, same_refl}

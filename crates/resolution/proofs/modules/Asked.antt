@@ -5,7 +5,6 @@ use mathlib.Core.List.{List}
 use mathlib.Core.Option.{Option, none, some}
 use Prim.Native.Nat.{ℕ}
 use Rattle.records.specs.declared.record.Kind.{Kind}
-use Rattle.records.specs.declared.record.Kind.TheVariants as Kind
 use Rattle.resolution.specs.Lists.{Name, any, keep}
 use Rattle.resolution.specs.Owner.{least}
 use Rattle.resolution.specs.Row.{holds}

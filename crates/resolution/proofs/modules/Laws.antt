@@ -18,9 +18,7 @@ use Rattle.records.specs.declared.finder.Found.{Found}
 use Rattle.records.specs.declared.finder.Found.TheVariants.{At, Nothing}
 use Rattle.records.specs.declared.record.Cursor.{Cursor}
 use Rattle.records.specs.declared.record.Next.{Next}
-use Rattle.records.specs.declared.record.Next.TheVariants as Next
 use Rattle.records.specs.declared.record.Kind.{Kind}
-use Rattle.records.specs.declared.record.Kind.TheVariants as Kind
 use Rattle.records.proofs.Logic.{clash, by}
 use Rattle.records.proofs.record.Bodies.{bodies-next, bodies-end, next-room, next-less}
 use Rattle.resolution.specs.Lists.{Name, any, first}

@@ -16,7 +16,6 @@ use Rattle.records.specs.Record.{bodies, next_of}
 use Rattle.records.specs.Set.{block_at}
 use Rattle.records.specs.declared.record.Cursor.{Cursor}
 use Rattle.records.specs.declared.record.Next.{Next}
-use Rattle.records.specs.declared.record.Next.TheVariants as Next
 use Rattle.records.specs.declared.record.Kind.TheVariants as Kind
 use Rattle.records.proofs.bytes.Laws.{same-eq}
 use Rattle.records.proofs.bytes.Order.{before_irrefl, before-trans, before-total, before-one-way}
@@ -31,7 +30,6 @@ use Rattle.resolution.specs.Resolver.{block_of, names_of, has_named, split_of, s
 use Rattle.resolution.specs.Filter.{is_marked, MarkedAll, Covers, least_of, lesser_of, least_in, asked}
 use Rattle.resolution.specs.declared.modules.Least.{Least}
 use Rattle.resolution.specs.declared.resolver.Halt.{Halt}
-use Rattle.resolution.specs.declared.resolver.Halt.TheVariants as Halt
 use Rattle.resolution.proofs.Lists.{mem_name_in, mem_name-out, any_in, any_out, any-no, keep_in, keep_out, flat_in, flat_out}
 use Rattle.resolution.proofs.filter.Covers.{covers-not}
 use Rattle.resolution.proofs.modules.Laws.{rest_more, rest-past, rest-none}

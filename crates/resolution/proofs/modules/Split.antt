@@ -13,9 +13,7 @@ use Rattle.records.specs.declared.finder.Found.{Found}
 use Rattle.records.specs.declared.finder.Found.TheVariants.{At, Nothing}
 use Rattle.records.specs.declared.record.Cursor.{Cursor}
 use Rattle.records.specs.declared.record.Next.{Next}
-use Rattle.records.specs.declared.record.Next.TheVariants as Next
 use Rattle.records.specs.declared.record.Kind.{Kind}
-use Rattle.records.specs.declared.record.Kind.TheVariants as Kind
 use Rattle.records.proofs.Logic.{clash}
 use Rattle.records.proofs.record.Search.{first-room}
 use Rattle.resolution.specs.Lists.{Name}
@@ -23,7 +21,6 @@ use Rattle.resolution.specs.Resolve.{body_start}
 use Rattle.resolution.specs.Resolver.{start_of, block_of, position_or, owner_at, split_of}
 use Rattle.resolution.specs.Filter.{asked, found_of, position_in, first_named}
 use Rattle.resolution.specs.declared.resolver.Halt.{Halt}
-use Rattle.resolution.specs.declared.resolver.Halt.TheVariants as Halt
 use Rattle.resolution.proofs.modules.Laws.{owner-first}
 
 -- ---- the position

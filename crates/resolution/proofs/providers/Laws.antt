@@ -12,7 +12,6 @@ use Rattle.records.specs.Name.{mem_name, name_of}
 use Rattle.records.specs.Record.{bodies}
 use Rattle.records.specs.Set.{block_at}
 use Rattle.records.specs.declared.record.Kind.{Kind}
-use Rattle.records.specs.declared.record.Kind.TheVariants as Kind
 use Rattle.records.proofs.Logic.{clash, by, or_left, or_right, true≠false}
 use Rattle.resolution.specs.Lists.{Name, any}
 use Rattle.resolution.specs.Row.{holds, count_below}
@@ -21,7 +20,6 @@ use Rattle.resolution.specs.Filter.{asked}
 use Rattle.resolution.specs.Runs.{Unbound, Binding}
 use Rattle.resolution.specs.Table.{tells_at, NamesTold}
 use Rattle.resolution.specs.declared.resolver.Halt.{Halt}
-use Rattle.resolution.specs.declared.resolver.Halt.TheVariants as Halt
 use Rattle.resolution.specs.declared.resolver.Phase.{Phase}
 use Rattle.resolution.specs.declared.resolver.Queue.{Queue}
 use Rattle.resolution.specs.declared.resolver.Wanted.TheVariants.{Add}

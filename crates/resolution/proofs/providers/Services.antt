@@ -10,7 +10,6 @@ use Rattle.records.specs.Order.{name_in}
 use Rattle.records.specs.Record.{bodies, next_of}
 use Rattle.records.specs.declared.record.Cursor.{Cursor}
 use Rattle.records.specs.declared.record.Next.{Next}
-use Rattle.records.specs.declared.record.Next.TheVariants as Next
 use Rattle.records.specs.declared.record.Kind.TheVariants as Kind
 use Rattle.records.proofs.record.Bodies.{next-less}
 use Rattle.resolution.specs.Lists.{Name, any}

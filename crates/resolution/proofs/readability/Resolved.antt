@@ -1,7 +1,7 @@
 -- The edges by positions are the read edges of the definition: j is reached from what i reads directly, by transitive
 -- requirements between members, exactly if the name of j is in `direct_reads` or `implied_reads` of the module at i.
 use mathlib.Core.Path.{◌≡◌, refl, sym, ap, ◌∙◌, subst}
-use Prim.Native.Nat.{ℕ, ◌+◌, ◌<◌}
+use Prim.Native.Nat.{ℕ, ◌+◌}
 use native.Mathlib.Omega.{arith}
 use mathlib.Core.Bool.{Bool, true, false, not, ◌&&◌, ◌||◌, cond}
 use mathlib.Core.Option.{Option, none, some}

@@ -26,9 +26,7 @@ use Rattle.resolution.specs.Resolve.{refused, error_of, told, answered, resolve}
 use Rattle.resolution.specs.Resolver.{Line, line_at, start_on, resolve_at}
 use Rattle.resolution.specs.Configure.{PermittedRow, Configured}
 use Rattle.resolution.specs.declared.resolve.Outcome.{Outcome}
-use Rattle.resolution.specs.declared.resolve.Outcome.TheVariants as Outcome
 use Rattle.resolution.specs.declared.resolver.Halt.{Halt}
-use Rattle.resolution.specs.declared.resolver.Halt.TheVariants as Halt
 use Rattle.resolution.specs.declared.resolver.Queue.{Queue}
 use Rattle.resolution.proofs.ConfigurationWords.{with-refused, with-few, with_enough}
 use Rattle.resolution.proofs.ResolverRun.{refused_with, positions, answer_on, answer_at}

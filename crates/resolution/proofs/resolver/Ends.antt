@@ -14,7 +14,6 @@ use Rattle.resolution.specs.Lists.{any}
 use Rattle.resolution.specs.Row.{one, count_below}
 use Rattle.resolution.specs.Resolver.{line_at, is_one_of, queued_at, queued_on, queued, Ready, Within, Moved}
 use Rattle.resolution.specs.declared.resolver.Halt.{Halt}
-use Rattle.resolution.specs.declared.resolver.Halt.TheVariants as Halt
 use Rattle.resolution.specs.declared.resolver.Queue.{Queue}
 use Rattle.resolution.specs.declared.resolver.Wanted.{Wanted}
 use Rattle.resolution.specs.declared.resolver.Wanted.TheVariants.{Pass, Add, Stop, Refuse}

@@ -20,7 +20,6 @@ use Rattle.records.proofs.record.Bodies.{next-less, body-room}
 use Rattle.resolution.specs.Resolver.{Inputs, inputs_of, want_record, kind_for, Line, pick_line, line_at, queued, queued_on, queue_in, is_done, Ready, Moved}
 use Rattle.resolution.specs.Known.{Tables}
 use Rattle.resolution.specs.declared.resolver.Halt.{Halt}
-use Rattle.resolution.specs.declared.resolver.Halt.TheVariants as Halt
 use Rattle.resolution.specs.declared.resolver.Phase.{Phase}
 use Rattle.resolution.specs.declared.resolver.Queue.{Queue}
 use Rattle.resolution.specs.declared.resolver.Wanted.{Wanted}

@@ -16,7 +16,6 @@ use Rattle.resolution.specs.Resolver.{Inputs, inputs_of, start_of, block_of, Lin
 use Rattle.resolution.specs.Known.{Tables}
 use Rattle.resolution.specs.Runs.{Running, Ran}
 use Rattle.resolution.specs.declared.resolver.Halt.{Halt}
-use Rattle.resolution.specs.declared.resolver.Halt.TheVariants as Halt
 use Rattle.resolution.specs.declared.resolver.Phase.{Phase}
 use Rattle.resolution.specs.declared.resolver.Queue.{Queue}
 use Rattle.resolution.proofs.resolver.Turns.{longer_records, tail-few, tail-long}

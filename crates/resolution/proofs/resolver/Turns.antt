@@ -1,5 +1,5 @@
 -- One turn of the queue, and the queue until none waits.
-use Prim.Native.Nat.{ℕ, suc, ◌+◌, ◌-◌, ◌≤◌, ◌<◌}
+use Prim.Native.Nat.{ℕ, suc, ◌+◌, ◌≤◌, ◌<◌}
 use mathlib.Core.Path.{◌≡◌, refl, sym, ◌∙◌, ap, subst}
 use mathlib.Core.Bool.{Bool, true, false, not, ◌&&◌}
 use mathlib.Core.List.{List, [], ◌∷◌, ◌++◌}
@@ -10,14 +10,12 @@ use lib.Seq.{take-take, get_or-take, length-take-le, take-append-le}
 use Rattle.records.specs.Record.{records, body_of, is_of}
 use Rattle.records.specs.Set.{block_at}
 use Rattle.records.specs.declared.error.Input.{Input}
-use Rattle.records.specs.declared.error.Input.TheVariants as Input
 use Rattle.records.specs.declared.error.ModuleError.{ModuleError}
 use Rattle.records.specs.declared.record.Kind.TheVariants as Kind
 use Rattle.resolution.specs.Resolver.{Inputs, inputs_of, start_of, block_of, names_of, want_record, kind_for, Line, line_at, is_one_of, pick_line, queued_at, queued_on, queued, queue_in, Ready, Moved, split_at, advanced_at, handled_at, handle_at, is_open, is_done}
 use Rattle.resolution.specs.Filter.{MarkedAll, Covers, asked}
 use Rattle.resolution.specs.Runs.{Running, Ran}
 use Rattle.resolution.specs.declared.resolver.Halt.{Halt}
-use Rattle.resolution.specs.declared.resolver.Halt.TheVariants as Halt
 use Rattle.resolution.specs.declared.resolver.Phase.{Phase}
 use Rattle.resolution.specs.declared.resolver.Queue.{Queue}
 use Rattle.resolution.specs.declared.resolver.Wanted.{Wanted}

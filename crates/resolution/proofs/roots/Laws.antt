@@ -23,7 +23,6 @@ use Rattle.resolution.specs.Known.{Limited, LimitTold, Tables, Later}
 use Rattle.resolution.specs.Runs.{Running, Ran}
 use Rattle.resolution.specs.declared.table.Listed.{Listed}
 use Rattle.resolution.specs.declared.resolver.Halt.{Halt}
-use Rattle.resolution.specs.declared.resolver.Halt.TheVariants as Halt
 use Rattle.resolution.specs.declared.resolver.Phase.{Phase}
 use Rattle.resolution.specs.declared.resolver.Queue.{Queue}
 use Rattle.resolution.specs.declared.resolver.Wanted.{Wanted}

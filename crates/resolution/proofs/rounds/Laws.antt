@@ -19,7 +19,6 @@ use Rattle.resolution.specs.Table.{NamesTold}
 use Rattle.resolution.specs.Runs.{Running, Ran, Unbound, Between, Rounded}
 use Rattle.resolution.specs.declared.table.Listed.{Listed}
 use Rattle.resolution.specs.declared.resolver.Halt.{Halt}
-use Rattle.resolution.specs.declared.resolver.Halt.TheVariants as Halt
 use Rattle.resolution.specs.declared.resolver.Phase.{Phase}
 use Rattle.resolution.specs.declared.resolver.Queue.{Queue}
 use Rattle.resolution.proofs.table.Laws.{tells-required}

@@ -16,7 +16,6 @@ use Rattle.records.specs.Record.{bodies, next_in, next_of}
 use Rattle.records.specs.Set.{block_at}
 use Rattle.records.specs.declared.record.Cursor.{Cursor}
 use Rattle.records.specs.declared.record.Kind.{Kind}
-use Rattle.records.specs.declared.record.Kind.TheVariants as Kind
 use Rattle.records.specs.declared.record.Next.{Next}
 use Rattle.records.specs.declared.record.Next.TheVariants.{Body, Nothing}
 use Rattle.records.proofs.Logic.{clash}

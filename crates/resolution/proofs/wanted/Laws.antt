@@ -15,7 +15,6 @@ use Rattle.records.specs.Finder.{find_name}
 use Rattle.records.specs.Order.{name_in, is_ordered}
 use Rattle.records.specs.Sorted.{Indexed}
 use Rattle.records.specs.declared.error.Input.{Input}
-use Rattle.records.specs.declared.error.Input.TheVariants as Input
 use Rattle.records.specs.declared.error.ModuleError.{ModuleError}
 use Rattle.records.specs.declared.error.ModuleError.TheVariants.{ModuleNotFound, JavaBaseNotFound}
 use Rattle.records.specs.declared.finder.Found.{Found}

@@ -1,0 +1,18 @@
+use Rattle.resolution.proofs.readability.Laws.{member-laws}
+use borrow.Author.Rules.{rules}
+use Rattle.resolution.proofs.readability.member.Goals as goal
+
+pub find_in-requires : goal.find_in-requires
+find_in-requires c = search (member-laws, rules)
+
+pub has-requires : goal.has-requires
+has-requires c = search (member-laws, rules)
+
+pub returns-then-has : goal.returns-then-has
+returns-then-has c = search (member-laws, rules)
+
+pub returns-else-has : goal.returns-else-has
+returns-else-has c = search (member-laws, rules)
+
+pub returns-in-Nothing : goal.returns-in-Nothing
+returns-in-Nothing c = search (member-laws, rules)
