@@ -21,7 +21,7 @@ use Rattle.records.proofs.set.Blocks.{GoodSet, good-set}
 use Rattle.resolution.specs.Lists.{Name}
 use Rattle.resolution.specs.Observed.{has_member, has_edge}
 use Rattle.resolution.specs.Positions.{is_visible}
-use Rattle.resolution.specs.Configuration.{word_count, with_words, edge_bit}
+use Rattle.resolution.specs.Configuration.{with_words, edge_bit}
 use Rattle.resolution.specs.Row.{bit, holds, one, count_below, bits_from, words_from, words}
 use Rattle.resolution.proofs.ConfigurationWords.{with-taken}
 use Rattle.resolution.proofs.Positions.{visible_in}

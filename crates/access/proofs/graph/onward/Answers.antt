@@ -1,0 +1,7 @@
+use Rattle.access.proofs.graph.Leads.{onward-is}
+use borrow.Author.Rules.{rules}
+use borrow.Author.Rules.{rules}
+use Rattle.access.proofs.graph.onward.Goals as goal
+
+pub returns : goal.returns
+returns c = search (onward-is, rules)

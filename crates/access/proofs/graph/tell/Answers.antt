@@ -1,0 +1,6 @@
+use borrow.Author.Rules.{rules}
+use Rattle.access.proofs.graph.Answers.{tell_is}
+use Rattle.access.proofs.graph.tell.Goals as goal
+
+pub returns : goal.returns
+returns c = search (tell_is, rules)
