@@ -4,7 +4,6 @@ use Rattle.records.specs.Bytes.{same_bytes, u16_at}
 use Rattle.records.specs.Name.{all_unnamed}
 use Rattle.records.specs.Output.{two_bytes, name_bytes, record_bytes}
 use Rattle.records.specs.declared.record.Kind.{Kind}
-use Rattle.records.specs.declared.record.Kind.TheVariants as Kind
 use Rattle.class_reader.specs.Pool.{has_name, name_at, has_version, version_at}
 use Rattle.class_reader.specs.declared.entry.Entry.{Entry}
 use Rattle.class_reader.specs.declared.entry.Entry.TheVariants.{Module, Requires, Exports, Opens, Uses, Provides, Package, MainClass}

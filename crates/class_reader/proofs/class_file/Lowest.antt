@@ -17,7 +17,6 @@ use Rattle.class_reader.specs.Attribute.{attribute_end, attribute_at, attribute_
 use Rattle.class_reader.specs.ClassFile.{head_good, is_module_info, fields_good, faults_behind, faults_from, faults, lowest, seen_behind, then_faults}
 use Rattle.class_reader.specs.Walk.{walk_from}
 use Rattle.class_reader.specs.declared.pool.Pool.{Pool}
-use Rattle.class_reader.specs.declared.pool.Pool.TheVariants as Pool
 use Rattle.class_reader.specs.declared.measure.Measured.{Measured}
 use Rattle.class_reader.specs.declared.attribute.Seen.{Seen}
 use Rattle.class_reader.specs.declared.attribute.Walked.TheVariants.{Found, Fault}

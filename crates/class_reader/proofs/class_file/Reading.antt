@@ -24,7 +24,6 @@ use Rattle.class_reader.specs.Walk.{measured_in, walk_from, Readable}
 use Rattle.class_reader.specs.declared.measure.Measured.{Measured}
 use Rattle.class_reader.specs.declared.attribute.Seen.{Seen}
 use Rattle.class_reader.specs.declared.attribute.Walked.{Walked}
-use Rattle.class_reader.specs.declared.attribute.Walked.TheVariants as Walked
 use Rattle.class_reader.specs.declared.pool.Pool.{Pool}
 use Rattle.class_reader.specs.declared.pool.Pool.TheVariants.{End, Fault}
 use Rattle.class_reader.proofs.attribute.Faults.{found-measured, found_readable}

@@ -25,7 +25,6 @@ use Rattle.class_reader.specs.Walk.{walk_from, Readable}
 use Rattle.class_reader.specs.declared.entry.Entry.TheVariants.{Module, MainClass}
 use Rattle.class_reader.specs.declared.attribute.Seen.{Seen}
 use Rattle.class_reader.specs.declared.attribute.Walked.{Walked}
-use Rattle.class_reader.specs.declared.attribute.Walked.TheVariants as Walked
 use Rattle.class_reader.specs.declared.pool.Pool.{Pool}
 use Rattle.class_reader.specs.declared.pool.Pool.TheVariants.{End, Fault}
 use Rattle.class_reader.proofs.attribute.Faults.{StartsWith, walk-fault, walk-seen, found_readable}

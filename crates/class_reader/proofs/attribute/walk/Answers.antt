@@ -1,5 +1,4 @@
 use Rattle.class_reader.proofs.attribute.Laws.{walk-laws}
-use Prim.Native.Nat.{◌-◌}
 use borrow.Author.Rules.{rules}
 use Rattle.class_reader.proofs.attribute.walk.Goals as goal
 

@@ -1,4 +1,3 @@
-use Prim.Native.Nat.{◌-◌}
 use Rattle.class_reader.proofs.entry.Laws.{names-laws}
 use borrow.Author.Rules.{rules}
 use Rattle.class_reader.proofs.entry.names_size.Goals as goal

@@ -1,4 +1,3 @@
-use Prim.Native.Nat.{◌-◌}
 use Rattle.class_reader.proofs.measure.Laws.{measure-laws}
 use borrow.Author.Rules.{rules}
 use Rattle.class_reader.proofs.measure.measure.Goals as goal

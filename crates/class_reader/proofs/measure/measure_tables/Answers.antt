@@ -1,4 +1,3 @@
-use Prim.Native.Nat.{◌-◌}
 use Rattle.class_reader.proofs.measure.Tables.{tables-laws}
 use borrow.Author.Rules.{rules}
 use Rattle.class_reader.proofs.measure.measure_tables.Goals as goal

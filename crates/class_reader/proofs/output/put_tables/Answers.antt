@@ -1,6 +1,5 @@
 use Rattle.class_reader.proofs.output.Tables.{tables-laws}
 use borrow.Author.Rules.{rules}
-use Prim.Native.Nat.{◌-◌}
 use Rattle.class_reader.proofs.output.put_tables.Goals as goal
 
 pub loop-i-init : goal.loop-i-init

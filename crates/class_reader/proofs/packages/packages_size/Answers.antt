@@ -1,5 +1,4 @@
 use Rattle.class_reader.proofs.packages.Sizes.{size-start, size-term, size-sum, size-more, size-done, size_low}
-use Prim.Native.Nat.{◌-◌}
 use Rattle.class_reader.proofs.packages.packages_size.Goals as goal
 
 pub loop-i-init : goal.loop-i-init

@@ -1,4 +1,3 @@
-use Prim.Native.Nat.{◌-◌}
 use borrow.Author.Rules.{rules}
 use Rattle.class_reader.proofs.pool.Table.{fill-laws}
 use Rattle.class_reader.proofs.pool.fill.Goals as goal
