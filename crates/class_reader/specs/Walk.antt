@@ -66,7 +66,7 @@ pub record Readable (f t : List ℕ) (s : Seen) : Type 0 where
   pub some : 0 < s.descriptor
   pub module_low : s.descriptor + 6 ≤ length f
   pub module_good : is_entry Entry.Module f t (s.descriptor + 6) ≡ true
-  pub tables_good_lem : tables_good f t module_tables (s.descriptor + 6 + 6) ≡ true
+  pub tables_are_good : tables_good f t module_tables (s.descriptor + 6 + 6) ≡ true
   pub packages_low : s.packages ≤ length f
   pub packages_good : eqb s.packages 0 ≡ false → table_good Entry.Package f t (s.packages + 6) ≡ true
   pub main_low : s.main ≤ length f

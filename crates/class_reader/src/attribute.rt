@@ -147,7 +147,7 @@ fn walk_named(
     requires end_in_bounds { end ≤ length file.now }
     requires small { Small file.now m }
     ensures value { result ≡ walk_named a file.now pool.now seen m at end }
-    ensures small_2 { Small file.now (measured_in result) }
+    ensures small_result { Small file.now (measured_in result) }
 {
     if seen.at(a) != 0 {
         return Walked::Fault(at);
@@ -165,7 +165,7 @@ fn walk_one(file: &[u8], pool: &[u16], seen: Seen, m: Measured, at: usize, end: 
     requires end_value { end ≡ attribute_end file.now at }
     requires small { Small file.now m }
     ensures value { result ≡ walk_one file.now pool.now seen m at }
-    ensures small_2 { Small file.now (measured_in result) }
+    ensures small_result { Small file.now (measured_in result) }
 {
     if file.len() < end {
         return Walked::Fault(at);

@@ -96,7 +96,7 @@ pub fn measure(file: &[u8], pool: &[u16], e: Entry, n: usize, from: Measured) ->
     requires file_len_bound { length file.now ≤ 65535 }
     requires small { Small file.now from }
     ensures value { result ≡ measure_entries e file.now pool.now n from }
-    ensures small_2 { Small file.now result }
+    ensures small_result { Small file.now result }
 {
     let mut next = from.next;
     let mut size = from.size;
@@ -120,7 +120,7 @@ pub fn measure_table(file: &[u8], pool: &[u16], e: Entry, from: Measured) -> Mea
     requires file_len_bound { length file.now ≤ 65535 }
     requires small { Small file.now from }
     ensures value { result ≡ measure_table e file.now pool.now from }
-    ensures small_2 { Small file.now result }
+    ensures small_result { Small file.now result }
 {
     let next = from.next;
     if next == 0 {
@@ -162,7 +162,7 @@ fn measure_tables(file: &[u8], pool: &[u16], from: Measured) -> Measured
     requires file_len_bound { length file.now ≤ 65535 }
     requires small { Small file.now from }
     ensures value { result ≡ measure_tables file.now pool.now module_tables from }
-    ensures small_2 { Small file.now result }
+    ensures small_result { Small file.now result }
 {
     let mut m = from;
     let mut i: usize = 0;

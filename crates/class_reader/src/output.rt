@@ -219,7 +219,7 @@ pub fn put_module(out: &mut [u8], file: &[u8], pool: &[u16], p: usize) -> usize
     requires file_len_bound { length file.now ≤ 65535 }
     requires p_in_bounds { p ≤ length file.now }
     requires p_value { is_entry Module file.now pool.now p ≡ true }
-    requires p_value_2 { tables_good file.now pool.now module_tables (p + 6) ≡ true }
+    requires tables_value { tables_good file.now pool.now module_tables (p + 6) ≡ true }
     requires room { Room out.old 0 (module_items file.now pool.now p) }
     ensures { Put out.old 0 (bytes_of (module_items file.now pool.now p)) out.new result }
 {

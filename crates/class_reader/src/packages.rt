@@ -49,7 +49,7 @@ pub fn packages_size(file: &[u8], table: &[usize], count: usize) -> usize
 pub fn put_packages(out: &mut [u8], at: usize, file: &[u8], table: &[usize], count: usize) -> usize
     requires count_in_bounds { count ≤ length table.now }
     requires count_value { all_short (names_in file.now table.now count) ≡ true }
-    requires count_in_bounds_2 { at + length (bytes_of (map package_item (names_in file.now table.now count))) ≤ length out.old }
+    requires room { at + length (bytes_of (map package_item (names_in file.now table.now count))) ≤ length out.old }
     ensures { Put out.old at (bytes_of (map package_item (names_in file.now table.now count))) out.new result }
 {
     put_group(out, at, 0x504B, 0, file, table, count)

@@ -124,7 +124,7 @@ found-measured f t (suc n) s at s' m' e = found-measured f t n (see (attribute_a
 pub record SeenGood (f t : List ℕ) (s : Seen) : Type 0 where
   pub module_low : 0 < s.descriptor → s.descriptor + 6 ≤ length f
   pub module_good : 0 < s.descriptor → is_entry Entry.Module f t (s.descriptor + 6) ≡ true
-  pub tables_good_lem : 0 < s.descriptor → tables_good f t module_tables (s.descriptor + 6 + 6) ≡ true
+  pub tables_are_good : 0 < s.descriptor → tables_good f t module_tables (s.descriptor + 6 + 6) ≡ true
   pub packages_low : s.packages ≤ length f
   pub packages_good : eqb s.packages 0 ≡ false → table_good Entry.Package f t (s.packages + 6) ≡ true
   pub main_low : s.main ≤ length f
@@ -134,7 +134,7 @@ nothing-good : (f t : List ℕ) → SeenGood f t nothing_seen
 nothing-good f t = record {
   module_low = λ h. absurd (omega arith);
   module_good = λ h. absurd (omega arith);
-  tables_good_lem = λ h. absurd (omega arith);
+  tables_are_good = λ h. absurd (omega arith);
   packages_low = omega arith;
   packages_good = λ h. clash (cc);
   main_low = omega arith;
@@ -150,7 +150,7 @@ module _ (f t : List ℕ) (s : Seen) (at end : ℕ) (g : SeenGood f t s) (l : at
       record {
         module_low = λ h. l;
         module_good = λ h. and_left (is_entry Entry.Module f t (at + 6)) (tables_good f t module_tables (at + 6 + 6) && eqb (tables_end f module_tables (at + 6 + 6)) end) e;
-        tables_good_lem = λ h. and_left (tables_good f t module_tables (at + 6 + 6)) (eqb (tables_end f module_tables (at + 6 + 6)) end) r;
+        tables_are_good = λ h. and_left (tables_good f t module_tables (at + 6 + 6)) (eqb (tables_end f module_tables (at + 6 + 6)) end) r;
         packages_low = g.packages_low;
         packages_good = g.packages_good;
         main_low = g.main_low;
@@ -159,7 +159,7 @@ module _ (f t : List ℕ) (s : Seen) (at end : ℕ) (g : SeenGood f t s) (l : at
   see-good ModulePackages e = record {
     module_low = g.module_low;
     module_good = g.module_good;
-    tables_good_lem = g.tables_good_lem;
+    tables_are_good = g.tables_are_good;
     packages_low = omega arith;
     packages_good = λ h. and_left (table_good Entry.Package f t (at + 6)) (eqb (table_end Entry.Package f (at + 6)) end) e;
     main_low = g.main_low;
@@ -168,7 +168,7 @@ module _ (f t : List ℕ) (s : Seen) (at end : ℕ) (g : SeenGood f t s) (l : at
   see-good ModuleMainClass e = record {
     module_low = g.module_low;
     module_good = g.module_good;
-    tables_good_lem = g.tables_good_lem;
+    tables_are_good = g.tables_are_good;
     packages_low = g.packages_low;
     packages_good = g.packages_good;
     main_low = omega arith;
@@ -220,7 +220,7 @@ found_readable f t n at s m e =
       some = l;
       module_low = g.module_low l;
       module_good = g.module_good l;
-      tables_good_lem = g.tables_good_lem l;
+      tables_are_good = g.tables_are_good l;
       packages_low = g.packages_low;
       packages_good = g.packages_good;
       main_low = g.main_low;

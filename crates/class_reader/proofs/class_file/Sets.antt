@@ -91,7 +91,7 @@ module _ (f t : List ℕ) (s : Seen) (bytes : (i : ℕ) → get_or f i 0 < 256) 
 
   all-inner : all_inner inner ≡ true
   all-inner =
-      inner-append (tables_items f t module_tables (p + 6)) (package_items f t s.packages) (module_inner f t bytes (p + 6) r.tables_good_lem)
+      inner-append (tables_items f t module_tables (p + 6)) (package_items f t s.packages) (module_inner f t bytes (p + 6) r.tables_are_good)
       (packages_inner f t s.packages r.packages_good)
 
   descriptor_set : is_large (descriptor_items f t s) ≡ false → length (bytes_of (descriptor_items f t s)) ≤ 65535 → same_bytes (name_at f t (u16_at f p)) all_unnamed ≡ false

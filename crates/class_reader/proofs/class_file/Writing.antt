@@ -89,7 +89,7 @@ pub ruleset fitted-laws = (fitted_short, fitted-room, fitted-bytes)
 
 module _ (f t : List ℕ) (s : Seen) (h : Readable f t s) (m : Measured) (em : m ≡ measure_module f t (s.descriptor + 6)) where
   measured : m ≡ adding (record { next = s.descriptor + 6; size = 0; large = false }) (tables_end f module_tables (s.descriptor + 6 + 6)) (module_items f t (s.descriptor + 6))
-  measured = em ∙ measure_module_lem f t (s.descriptor + 6) (omega arith) ∙ rw (h.module_good, h.tables_good_lem)
+  measured = em ∙ measure_module_lem f t (s.descriptor + 6) (omega arith) ∙ rw (h.module_good, h.tables_are_good)
 
   size_is : m.size ≡ 0 + length (bytes_of (module_items f t (s.descriptor + 6)))
   unfolding adding
