@@ -1,16 +1,13 @@
 -- The replies of the host's functions: what each answer of the library is told as.
 use Rattle.std.specs.Prelude.{ℕ, ◌≡◌, List, [], ◌∷◌, Bool, cond}
 use Rattle.records.specs.declared.jar.Written.{Written}
-use Rattle.records.specs.declared.jar.Written.TheVariants as Written
 use Rattle.records.specs.declared.set.SetAnswer.{SetAnswer}
 use Rattle.records.specs.declared.set.SetAnswer.TheVariants as Set
 use Rattle.resolution.specs.Configuration.{member_words}
 use Rattle.resolution.specs.Resolve.{ResolveResult}
 use Rattle.resolution.specs.Row.{size}
 use Rattle.resolution.specs.declared.owner.Owner.{Owner}
-use Rattle.resolution.specs.declared.owner.Owner.TheVariants as Owner
 use Rattle.resolution.specs.declared.resolve.Outcome.{Outcome}
-use Rattle.resolution.specs.declared.resolve.Outcome.TheVariants as Outcome
 use Rattle.access.specs.declared.access.AccessAnswer.{AccessAnswer}
 use Rattle.access.specs.declared.access.AccessAnswer.TheVariants as Access
 use Rattle.access.specs.declared.access.AccessCheckResult.{AccessCheckResult}

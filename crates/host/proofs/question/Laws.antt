@@ -6,7 +6,6 @@ use mathlib.Core.List.{List, [], ◌∷◌}
 use Rattle.records.specs.declared.error.ModuleError.{ModuleError}
 use Rattle.resolution.specs.PackageOwner.{find_module_for_package}
 use Rattle.resolution.specs.declared.owner.Owner.{Owner}
-use Rattle.resolution.specs.declared.owner.Owner.TheVariants as Owner
 use Rattle.access.specs.Access.{check_access}
 use Rattle.access.specs.CanRead.{can_read}
 use Rattle.access.specs.declared.access.AccessAnswer.{AccessAnswer}

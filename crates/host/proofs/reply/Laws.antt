@@ -7,7 +7,6 @@ use Rattle.records.specs.declared.error.Input.{Input}
 use Rattle.records.specs.declared.error.ModuleError.{ModuleError}
 use Rattle.records.specs.declared.error.ModuleError.TheVariants.{Malformed, ModuleNotFound}
 use Rattle.records.specs.declared.jar.Written.{Written}
-use Rattle.records.specs.declared.jar.Written.TheVariants as Written
 use Rattle.host.specs.Host.{written_reply}
 use Rattle.host.specs.Reply.{four, answered, refused, Told}
 

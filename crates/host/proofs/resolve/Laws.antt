@@ -10,7 +10,6 @@ use Rattle.resolution.specs.Configuration.{member_words}
 use Rattle.resolution.specs.Resolve.{ResolveResult}
 use Rattle.resolution.specs.Row.{size}
 use Rattle.resolution.specs.declared.resolve.Outcome.{Outcome}
-use Rattle.resolution.specs.declared.resolve.Outcome.TheVariants as Outcome
 use Rattle.host.specs.Host.{set_reply, outcome_reply, Resolved}
 use Rattle.host.specs.Reply.{answered, refused, Told}
 
