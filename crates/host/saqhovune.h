@@ -1,4 +1,4 @@
-/* The C functions of the crate host: `rt staticlib host` writes target/staticlib/libhost.a with them.
+/* The C functions of the crate host: `rt lib` in its folder writes out/libhost.a with them.
  *
  * A set may have up to eight places, each begun by a record PL with an empty body; records before the first PL, if any, are the
  * first place. Of modules of one name, which stand in different places, the first from the front counts and hides the others. Positions
