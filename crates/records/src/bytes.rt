@@ -25,8 +25,8 @@ pub fn and(a: bool, b: bool) -> bool
 // Whether the n bytes of a from `at` on are those of b. There is no early exit, so that the compiler can take all of them at once
 // where n is a constant.
 fn same_in(a: &[u8], b: &[u8], at: usize, n: usize) -> bool
-    requires n_in_bounds { at + n ≤ length a.now }
-    requires n_in_bounds_2 { at + n ≤ length b.now }
+    requires in_a { at + n ≤ length a.now }
+    requires in_b { at + n ≤ length b.now }
     ensures { result ≡ same_bytes (take n (drop at a.now)) (take n (drop at b.now)) }
 {
     let mut equal = true;
@@ -75,8 +75,8 @@ fn smaller(a: usize, b: usize) -> usize
 
 // A place up to which a and b agree, not past n: eight bytes are taken at a time, as long as they are the same.
 fn agree(a: &[u8], b: &[u8], n: usize) -> usize
-    requires n_in_bounds { n ≤ length a.now }
-    requires n_in_bounds_2 { n ≤ length b.now }
+    requires in_a { n ≤ length a.now }
+    requires in_b { n ≤ length b.now }
     ensures { AgreeAt a.now b.now n result }
 {
     let mut i: usize = 0;
@@ -92,8 +92,8 @@ fn agree(a: &[u8], b: &[u8], n: usize) -> usize
 
 // The first place below n where a and b differ, n where there is none.
 fn differ(a: &[u8], b: &[u8], n: usize) -> usize
-    requires n_in_bounds { n ≤ length a.now }
-    requires n_in_bounds_2 { n ≤ length b.now }
+    requires in_a { n ≤ length a.now }
+    requires in_b { n ≤ length b.now }
     ensures { DifferAt a.now b.now n result }
 {
     let mut i = agree(a, b, n);

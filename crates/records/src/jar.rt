@@ -41,7 +41,7 @@ fn write_ordered(
 fn write_in_order(name: &[u8], packages: &[u8], table: &mut [usize], out: &mut [u8]) -> Written
     requires name_len_bound { length name.now ≤ 255 }
     requires packages_len_bound { length packages.now ≤ 65535 }
-    requires packages_len_bound_2 { length packages.now ≤ 4 * length table.old }
+    requires table_room { length packages.now ≤ 4 * length table.old }
     ensures { Fitted name.now packages.now out.old out.new result }
 {
     let count = ordered_packages(packages, table);

@@ -134,7 +134,7 @@ pub fn insert_names(
 // Fills the table with the packages of package records in byte order without repeats; returns their number.
 pub fn ordered_packages(s: &[u8], table: &mut [usize]) -> usize
     requires s_len_bound { length s.now ≤ 65535 }
-    requires s_len_bound_2 { length s.now ≤ 4 * length table.old }
+    requires table_room { length s.now ≤ 4 * length table.old }
     ensures { PackagesOrdered s.now table.old table.new result }
 {
     insert_names(s, 0, s.len(), Kind::Package, table, 0)

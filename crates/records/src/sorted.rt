@@ -94,7 +94,7 @@ fn compare_entry(
     requires indexed { Indexed (map (name_at set.now) (take count starts.now)) index.now }
     requires m_bound { m < entries_in index.now }
     requires key { Key name.now 0 k }
-    requires key_2 { Key name.now 8 j }
+    requires next_key_is { Key name.now 8 j }
     ensures { result ≡ standing (name_of_position (map (name_at set.now) (take count starts.now)) (get_or (table_in index.now) m 0)) name.now }
 {
     let i = index[TABLE_SLOT + m];
@@ -166,7 +166,7 @@ pub fn find_in(set: &[u8], starts: &[usize], count: usize, index: &[usize], name
     requires count_in_bounds { count ≤ length starts.now }
     requires indexed { Indexed (map (name_at set.now) (take count starts.now)) index.now }
     ensures value { result ≡ search_ten (map (name_at set.now) (take count starts.now)) (table_in index.now) (get_or index.now first_slot 0) name.now }
-    ensures value_2 { result ≡ find_name (map (name_at set.now) (take count starts.now)) name.now 0 }
+    ensures walk_value { result ≡ find_name (map (name_at set.now) (take count starts.now)) name.now 0 }
 {
     match seek(set, starts, count, index, index[FIRST_SLOT], name) {
         Place::There(m) => Found::At(index[TABLE_SLOT + m]),
@@ -190,7 +190,7 @@ fn place_from(
     requires h_bound { h ≤ entries_in index.now }
     requires below { Below (map (name_at set.now) (take count starts.now)) (table_in index.now) name.now h }
     requires key { Key name.now 0 k }
-    requires key_2 { Key name.now 8 j }
+    requires next_key_is { Key name.now 8 j }
     ensures { Placing (map (name_at set.now) (take count starts.now)) (table_in index.now) name.now result }
 {
     let n = index[ENTRIES_SLOT];
@@ -218,7 +218,7 @@ fn place_of(
     requires count_in_bounds { count ≤ length starts.now }
     requires indexed { Indexed (map (name_at set.now) (take count starts.now)) index.now }
     requires key { Key name.now 0 k }
-    requires key_2 { Key name.now 8 j }
+    requires next_key_is { Key name.now 8 j }
     ensures { Placing (map (name_at set.now) (take count starts.now)) (table_in index.now) name.now result }
 {
     let n = index[ENTRIES_SLOT];

@@ -84,8 +84,8 @@ fn set_requirement(
     requires p_bound { p < 512 }
     requires graph_len { length graph.old ≡ rows_length }
     requires rows_len { length rows.old ≡ rows_length }
-    ensures with_edges { WithEdges graph.old (edges_of p (is_required (table_names set.now starts.now count) members.words true (requirement_of body.now))) graph.new }
-    ensures with_edges_2 { WithEdges rows.old (edges_of p (is_required (table_names set.now starts.now count) members.words false (requirement_of body.now))) rows.new }
+    ensures graph_with_edges { WithEdges graph.old (edges_of p (is_required (table_names set.now starts.now count) members.words true (requirement_of body.now))) graph.new }
+    ensures rows_with_edges { WithEdges rows.old (edges_of p (is_required (table_names set.now starts.now count) members.words false (requirement_of body.now))) rows.new }
 {
     let found = required_member(set, starts, count, index, members, base, required(body));
     set_edge(p, found, rows);
@@ -112,8 +112,8 @@ fn set_requirements(
     requires p_bound { p < 512 }
     requires graph_len { length graph.old ≡ rows_length }
     requires rows_len { length rows.old ≡ rows_length }
-    ensures with_edges { WithEdges graph.old (edges_of p (required_at (table_names set.now starts.now count) members.words true (descriptor_of block.now).requires)) graph.new }
-    ensures with_edges_2 { WithEdges rows.old (edges_of p (required_at (table_names set.now starts.now count) members.words false (descriptor_of block.now).requires)) rows.new }
+    ensures graph_with_edges { WithEdges graph.old (edges_of p (required_at (table_names set.now starts.now count) members.words true (descriptor_of block.now).requires)) graph.new }
+    ensures rows_with_edges { WithEdges rows.old (edges_of p (required_at (table_names set.now starts.now count) members.words false (descriptor_of block.now).requires)) rows.new }
 {
     let mut c = Cursor { at: 0 };
     loop {
@@ -134,7 +134,7 @@ fn set_requirements(
 
 // The edge to java.base of the module at p, which has this block (not for java.base itself).
 fn set_base(block: &[u8], base: Found, p: usize, rows: &mut [u64])
-    requires below { Below base }
+    requires base_below { Below base }
     requires p_bound { p < 512 }
     requires rows_len { length rows.old ≡ rows_length }
     ensures { WithEdges rows.old (edges_of p (base_of (descriptor_of block.now) base)) rows.new }
@@ -163,8 +163,8 @@ fn set_direct_row(
     requires p_bound { p < 512 }
     requires graph_len { length graph.old ≡ rows_length }
     requires rows_len { length rows.old ≡ rows_length }
-    ensures with_edges { WithEdges graph.old (edges_of p (required_at (table_names set.now starts.now count) members.words true (descriptor_of (block_at set.now starts.now p)).requires)) graph.new }
-    ensures with_edges_2 { WithEdges rows.old (edges_of p (direct_at (table_names set.now starts.now count) members.words (descriptor_of (block_at set.now starts.now p)))) rows.new }
+    ensures graph_with_edges { WithEdges graph.old (edges_of p (required_at (table_names set.now starts.now count) members.words true (descriptor_of (block_at set.now starts.now p)).requires)) graph.new }
+    ensures rows_with_edges { WithEdges rows.old (edges_of p (direct_at (table_names set.now starts.now count) members.words (descriptor_of (block_at set.now starts.now p)))) rows.new }
 {
     let b = block(set, starts, p);
     set_requirements(set, starts, count, index, members, base, b, p, graph, rows);
@@ -271,8 +271,8 @@ fn set_reads(
 
 // The edge of an AR.
 fn set_read(source: Found, target: Found, rows: &mut [u64])
-    requires below { Below source }
-    requires below_2 { Below target }
+    requires source_below { Below source }
+    requires target_below { Below target }
     requires rows_len { length rows.old ≡ rows_length }
     ensures { WithEdges rows.old (edge_from source target) rows.new }
 {

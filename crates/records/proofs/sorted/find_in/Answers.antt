@@ -18,7 +18,7 @@ pub bounds-index-m : goal.bounds-index-m
 bounds-index-m c = search (find-laws, rules)
 
 pub returns-in-There : goal.returns-in-There
-returns-in-There c = record { value = search find-there; value_2 = search find-there-walk }
+returns-in-There c = record { value = search find-there; walk_value = search find-there-walk }
 
 pub returns-in-Free : goal.returns-in-Free
 returns-in-Free c = search (find-laws, rules)

@@ -9,7 +9,7 @@ pub returns-then-h-n : goal.returns-then-h-n
 returns-then-h-n c = search (place-laws, rules)
 
 pub compare_entry-requires : goal.compare_entry-requires
-compare_entry-requires c = record { count_in_bounds = search rules; indexed = search rules; m_bound = search place-inner; key = search rules; key_2 = search rules }
+compare_entry-requires c = record { count_in_bounds = search rules; indexed = search rules; m_bound = search place-inner; key = search rules; next_key_is = search rules }
 
 pub seek-requires : goal.seek-requires
 seek-requires c = record { count_in_bounds = search rules; indexed = search rules; first_bound = search place-half }

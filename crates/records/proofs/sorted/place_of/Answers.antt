@@ -12,13 +12,13 @@ pub bounds-index-1537 : goal.bounds-index-1537
 bounds-index-1537 c = search (place-laws, rules)
 
 pub compare_entry-requires : goal.compare_entry-requires
-compare_entry-requires c = record { count_in_bounds = search rules; indexed = search rules; m_bound = search place-some; key = search rules; key_2 = search rules }
+compare_entry-requires c = record { count_in_bounds = search rules; indexed = search rules; m_bound = search place-some; key = search rules; next_key_is = search rules }
 
 pub overflow_add-h : goal.overflow_add-h
 overflow_add-h c = search (place-laws, rules)
 
 pub place_from-requires : goal.place_from-requires
-place_from-requires c = record { count_in_bounds = search rules; indexed = search rules; h_bound = search (place-next, place-some); below = search place-behind; key = search rules; key_2 = search rules }
+place_from-requires c = record { count_in_bounds = search rules; indexed = search rules; h_bound = search (place-next, place-some); below = search place-behind; key = search rules; next_key_is = search rules }
 
 pub seek-requires : goal.seek-requires
 seek-requires c = record { count_in_bounds = search rules; indexed = search rules; first_bound = search place-half }
