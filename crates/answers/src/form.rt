@@ -1,23 +1,22 @@
 // The stored form: numbers, words, texts and rows; and what is printed where something differs.
-use libc::STDOUT_FILENO;
 use records::bytes::{be16, part, tail};
 use resolution::row::Row;
 
-pub fn say(text: &[u8]) {
-    io::write_all(STDOUT_FILENO, text);
+pub fn say(rt: &HostRuntime, text: &[u8]) {
+    let _ = rt.write_all(text);
 }
 
 // A space and a number.
-pub fn number(n: usize) {
-    say(b" ");
-    io::print_decimal(STDOUT_FILENO, n as u64);
+pub fn number(rt: &HostRuntime, n: usize) {
+    say(rt, b" ");
+    let _ = rt.print(n);
 }
 
 // This text where it does not hold.
-pub fn expect(holds: bool, text: &[u8]) {
+pub fn expect(rt: &HostRuntime, holds: bool, text: &[u8]) {
     if !holds {
-        say(b" differs: ");
-        say(text);
+        say(rt, b" differs: ");
+        say(rt, text);
     }
 }
 

@@ -37,192 +37,219 @@ use resolution::configuration::WORDS;
 use resolution::resolve::Outcome;
 
 // The words are those of the stored members and rows, and one behind them that is 7.
-fn expect_words(words: &[u64], s: &[u8]) {
+fn expect_words(rt: &HostRuntime, words: &[u64], s: &[u8]) {
     let mut wanted = [7u64; 4617];
     put_rows(&mut wanted, s);
-    expect(is_same(words, &wanted), b"words");
-    expect(has_rows(words, tail(s, 64)), b"reads");
+    expect(rt, is_same(words, &wanted), b"words");
+    expect(rt, has_rows(words, tail(s, 64)), b"reads");
 }
 
 // The stored rows give the same words where each edge is added by itself. Tells how many there are.
-fn expect_edges(words: &[u64], rows: &[u8])
+fn expect_edges(rt: &HostRuntime, words: &[u64], rows: &[u8])
     requires { 4616 ≤ length words.now }
 {
     let mut made = [0u64; WORDS];
-    say(b" reads");
-    number(add_rows(&mut made, rows));
-    expect(is_reads(words, &made), b"edges");
+    say(rt, b" reads");
+    number(rt, add_rows(&mut made, rows));
+    expect(rt, is_reads(words, &made), b"edges");
 }
 
-fn accepted(set: &[u8], request: &[u8], words: &[u64], stored: usize, s: &[u8], entries: &[u8])
+fn accepted(
+    rt: &HostRuntime,
+    set: &[u8],
+    request: &[u8],
+    words: &[u64],
+    stored: usize,
+    s: &[u8],
+    entries: &[u8],
+)
     requires { 4616 ≤ length words.now }
 {
-    say(b" resolved");
-    number(resolution::configuration::len(words));
-    expect(stored == 0, b"number");
-    expect_words(words, s);
-    expect_edges(words, tail(s, 64));
-    ask(set, request, words, entries);
+    say(rt, b" resolved");
+    number(rt, resolution::configuration::len(words));
+    expect(rt, stored == 0, b"number");
+    expect_words(rt, words, s);
+    expect_edges(rt, words, tail(s, 64));
+    ask(rt, set, request, words, entries);
 }
 
-fn refused(set: &[u8], request: &[u8], e: ModuleError, stored: usize, s: &[u8]) {
+fn refused(rt: &HostRuntime, set: &[u8], request: &[u8], e: ModuleError, stored: usize, s: &[u8]) {
     let r = refusal_of(e);
-    print_refusal(r, set, request);
-    expect_refusal(r, stored, s);
-    expect_check(set, request, stored, s);
-    expect_question(set, request, stored, s);
+    print_refusal(rt, r, set, request);
+    expect_refusal(rt, r, stored, s);
+    expect_check(rt, set, request, stored, s);
+    expect_question(rt, set, request, stored, s);
 }
 
 // One word too few: what is refused with 1 to 3 still is, all else is refused with 4. No word changes.
-fn expect_short(set: &[u8], request: &[u8], stored: usize, s: &[u8]) {
+fn expect_short(rt: &HostRuntime, set: &[u8], request: &[u8], stored: usize, s: &[u8]) {
     let mut words = [7u64; 4615];
     match resolution::resolve::resolve(set, request, &mut words) {
-        Outcome::Accepted => expect(false, b"too few words"),
-        Outcome::Refused(e) => expect_needed(refusal_of(e), stored, s),
+        Outcome::Accepted => expect(rt, false, b"too few words"),
+        Outcome::Refused(e) => expect_needed(rt, refusal_of(e), stored, s),
     }
-    expect(is_filled(&words), b"too few words changed");
+    expect(rt, is_filled(&words), b"too few words changed");
 }
 
 // A set and a request, the stored number and what goes with it, and entries. Of the words lent one is too many, and stays as it is;
 // so do all where it is refused.
-fn resolve(set: &[u8], request: &[u8], stored: usize, s: &[u8], entries: &[u8]) {
+fn resolve(rt: &HostRuntime, set: &[u8], request: &[u8], stored: usize, s: &[u8], entries: &[u8]) {
     let mut words = [7u64; 4617];
     let outcome = resolution::resolve::resolve(set, request, &mut words);
     match outcome {
-        Outcome::Accepted => accepted(set, request, &words, stored, s, entries),
+        Outcome::Accepted => accepted(rt, set, request, &words, stored, s, entries),
         Outcome::Refused(e) => {
-            refused(set, request, e, stored, s);
-            expect(is_filled(&words), b"words changed");
+            refused(rt, set, request, e, stored, s);
+            expect(rt, is_filled(&words), b"words changed");
         }
     }
-    expect_short(set, request, stored, s);
+    expect_short(rt, set, request, stored, s);
 }
 
 // A resolution at the front; what stands behind it.
-fn resolution_case(s: &[u8]) -> &[u8] {
+fn resolution_case(rt: &HostRuntime, s: &[u8]) -> &[u8] {
     let t = behind(s);
     let u = behind(t);
     let v = tail(u, 1);
     let w = behind(v);
-    resolve(text(s), text(t), byte(u, 0), text(v), text(w));
+    resolve(rt, text(s), text(t), byte(u, 0), text(v), text(w));
     behind(w)
 }
 
 // Entries over a configuration at the front; what stands behind them.
-fn configuration_case(s: &[u8]) -> &[u8] {
+fn configuration_case(rt: &HostRuntime, s: &[u8]) -> &[u8] {
     let t = behind(s);
     let u = behind(t);
     let v = behind(u);
-    say(b" asked");
+    say(rt, b" asked");
     let mut words = [0u64; WORDS];
     put_rows(&mut words, text(u));
-    ask(text(s), text(t), &words, text(v));
+    ask(rt, text(s), text(t), &words, text(v));
     behind(v)
 }
 
 // What was written, or the refusal, and what the output holds now.
-fn expect_written(w: Written, stored: usize, s: &[u8], out: &[u8], before: &[u8]) {
+fn expect_written(
+    rt: &HostRuntime,
+    w: Written,
+    stored: usize,
+    s: &[u8],
+    out: &[u8],
+    before: &[u8],
+) {
     match w {
         Written::Bytes(n) => {
-            say(b" written");
-            number(n);
-            expect(stored == 0, b"number");
-            expect(same(head(out, n), s), b"output");
-            expect(same(tail(out, n), tail(before, n)), b"output behind");
+            say(rt, b" written");
+            number(rt, n);
+            expect(rt, stored == 0, b"number");
+            expect(rt, same(head(out, n), s), b"output");
+            expect(rt, same(tail(out, n), tail(before, n)), b"output behind");
         }
         Written::Refused(e) => {
             let r = refusal_of(e);
-            print_refusal(r, b"", b"");
-            expect_refusal(r, stored, s);
-            expect(same(out, before), b"output changed");
+            print_refusal(rt, r, b"", b"");
+            expect_refusal(rt, r, stored, s);
+            expect(rt, same(out, before), b"output changed");
         }
     }
 }
 
-fn write_short(jar: &[u8], given: bool, manifest: &[u8], packages: &[u8], stored: usize, s: &[u8]) {
+fn write_short(
+    rt: &HostRuntime,
+    jar: &[u8],
+    given: bool,
+    manifest: &[u8],
+    packages: &[u8],
+    stored: usize,
+    s: &[u8],
+) {
     let before = [7u8; 40];
     let mut out = [7u8; 40];
     let w = automatic_from_jar_name(jar, given, manifest, packages, &mut out);
-    expect_written(w, stored, s, &out, &before);
+    expect_written(rt, w, stored, s, &out, &before);
 }
 
-fn write_long(jar: &[u8], given: bool, manifest: &[u8], packages: &[u8], stored: usize, s: &[u8]) {
+fn write_long(
+    rt: &HostRuntime,
+    jar: &[u8],
+    given: bool,
+    manifest: &[u8],
+    packages: &[u8],
+    stored: usize,
+    s: &[u8],
+) {
     let before = [7u8; 4096];
     let mut out = [7u8; 4096];
     let w = automatic_from_jar_name(jar, given, manifest, packages, &mut out);
-    expect_written(w, stored, s, &out, &before);
+    expect_written(rt, w, stored, s, &out, &before);
 }
 
-fn write(jar: &[u8], manifest: &[u8], packages: &[u8], flags: &[u8], s: &[u8]) {
+fn write(rt: &HostRuntime, jar: &[u8], manifest: &[u8], packages: &[u8], flags: &[u8], s: &[u8]) {
     let given = byte(flags, 0) == 1;
     let stored = byte(flags, 2);
     if byte(flags, 1) == 1 {
-        write_short(jar, given, manifest, packages, stored, s);
+        write_short(rt, jar, given, manifest, packages, stored, s);
         return;
     }
-    write_long(jar, given, manifest, packages, stored, s);
+    write_long(rt, jar, given, manifest, packages, stored, s);
 }
 
 // A jar at the front; what stands behind it.
-fn jar_case(s: &[u8]) -> &[u8] {
+fn jar_case(rt: &HostRuntime, s: &[u8]) -> &[u8] {
     let t = behind(s);
     let u = behind(t);
     let flags = behind(u);
     let v = tail(flags, 3);
-    write(text(s), text(t), text(u), flags, text(v));
+    write(rt, text(s), text(t), text(u), flags, text(v));
     behind(v)
 }
 
 // The case at the front, and what stands behind it.
-fn case(s: &[u8]) -> &[u8] {
-    say(text(s));
-    say(b":");
+fn case(rt: &HostRuntime, s: &[u8]) -> &[u8] {
+    say(rt, text(s));
+    say(rt, b":");
     let t = behind(s);
     let kind = byte(t, 0);
     if kind == 82 {
-        return resolution_case(tail(t, 1));
+        return resolution_case(rt, tail(t, 1));
     }
     if kind == 67 {
-        return configuration_case(tail(t, 1));
+        return configuration_case(rt, tail(t, 1));
     }
-    jar_case(tail(t, 1))
+    jar_case(rt, tail(t, 1))
 }
 
 // The line of the case at the front, and what stands behind it.
-fn line(s: &[u8]) -> &[u8] {
-    let rest = case(s);
-    say(b"\n");
+fn line(rt: &HostRuntime, s: &[u8]) -> &[u8] {
+    let rest = case(rt, s);
+    say(rt, b"\n");
     rest
 }
 
 // All cases, at most 4,096.
-fn run(cases: &[u8]) {
+fn run(rt: &HostRuntime, cases: &[u8]) {
     let mut rest = cases;
     let mut i: usize = 0;
     while i < 4096 {
         if rest.len() == 0 {
             return;
         }
-        let next = line(rest);
+        let next = line(rt, rest);
         rest = next;
         i += 1;
     }
 }
 
 // The cases in this file.
-fn run_file(name: &[u8]) {
-    let fd = os::open_read(name);
-    if fd < 0 {
-        os::fail(b"answers: cannot read the file");
-        return;
-    }
+fn run_file(rt: &HostRuntime, name: &[u8]) {
     let mut buffer = [0u8; 524288];
-    let n = io::read_full(fd, &mut buffer);
-    libc::close(fd);
-    run(head(&buffer, n));
+    match files::read(rt, name, &mut buffer) {
+        Ok(n) => run(rt, head(&buffer, n)),
+        Err(e) => files::fail(rt, b"answers: cannot read the file", e),
+    }
 }
 
-fn main() {
-    run_file(b"cases");
-    run_file(b"more");
+fn main(rt: HostRuntime) {
+    run_file(&rt, b"cases");
+    run_file(&rt, b"more");
 }

@@ -65,82 +65,82 @@ pub fn refusal_of(e: ModuleError) -> Refusal {
 }
 
 // The name that the refusal points to.
-fn print_name(r: Refusal, set: &[u8], request: &[u8]) {
-    say(b" ");
+fn print_name(rt: &HostRuntime, r: Refusal, set: &[u8], request: &[u8]) {
+    say(rt, b" ");
     if r.which == 2 {
-        say(part(request, r.at, r.len));
+        say(rt, part(request, r.at, r.len));
         return;
     }
-    say(part(set, r.at, r.len));
+    say(rt, part(set, r.at, r.len));
 }
 
-fn print_input(which: usize) {
+fn print_input(rt: &HostRuntime, which: usize) {
     if which == 1 {
-        say(b" set");
+        say(rt, b" set");
     }
     if which == 2 {
-        say(b" request");
+        say(rt, b" request");
     }
     if which == 3 {
-        say(b" packages");
+        say(rt, b" packages");
     }
 }
 
-pub fn print_refusal(r: Refusal, set: &[u8], request: &[u8]) {
-    say(b" refused");
-    number(r.number);
+pub fn print_refusal(rt: &HostRuntime, r: Refusal, set: &[u8], request: &[u8]) {
+    say(rt, b" refused");
+    number(rt, r.number);
     if r.number == 5 {
-        print_name(r, set, request);
+        print_name(rt, r, set, request);
         return;
     }
     if r.number == 7 {
-        print_name(r, set, request);
-        number(r.owner);
-        number(r.second);
+        print_name(rt, r, set, request);
+        number(rt, r.owner);
+        number(rt, r.second);
         return;
     }
     if r.number < 5 {
-        print_input(r.which);
-        number(r.at);
+        print_input(rt, r.which);
+        number(rt, r.at);
     }
 }
 
-pub fn expect_refusal(r: Refusal, stored: usize, s: &[u8]) {
-    expect(r.number == stored, b"number");
-    expect(r.which == byte(s, 0), b"input");
-    expect(r.at == be32(tail(s, 1)), b"offset");
-    expect(r.len == be16(s, 5), b"length");
-    expect(r.owner == be16(s, 7), b"owner");
-    expect(r.second == be16(s, 9), b"second module");
+pub fn expect_refusal(rt: &HostRuntime, r: Refusal, stored: usize, s: &[u8]) {
+    expect(rt, r.number == stored, b"number");
+    expect(rt, r.which == byte(s, 0), b"input");
+    expect(rt, r.at == be32(tail(s, 1)), b"offset");
+    expect(rt, r.len == be16(s, 5), b"length");
+    expect(rt, r.owner == be16(s, 7), b"owner");
+    expect(rt, r.second == be16(s, 9), b"second module");
 }
 
 // The stored refusal where that is 1 to 3, else 4 with the words needed.
-pub fn expect_needed(r: Refusal, stored: usize, s: &[u8]) {
+pub fn expect_needed(rt: &HostRuntime, r: Refusal, stored: usize, s: &[u8]) {
     if 0 < stored {
         if stored < 4 {
-            expect_refusal(r, stored, s);
+            expect_refusal(rt, r, stored, s);
             return;
         }
     }
-    expect(r.number == 4, b"number with too few words");
-    expect(r.at == WORDS, b"words needed");
+    expect(rt, r.number == 4, b"number with too few words");
+    expect(rt, r.at == WORDS, b"words needed");
 }
 
 // The check ends with a refusal 1 to 3, and takes what is refused later.
-pub fn expect_check(set: &[u8], request: &[u8], stored: usize, s: &[u8]) {
+pub fn expect_check(rt: &HostRuntime, set: &[u8], request: &[u8], stored: usize, s: &[u8]) {
     let checked = check(set, request);
     let answer = checked.answer;
     match answer {
-        SetAnswer::Modules(_) => expect(3 < stored, b"check"),
-        SetAnswer::Refused(e) => expect_refusal(refusal_of(e), stored, s),
+        SetAnswer::Modules(_) => expect(rt, 3 < stored, b"check"),
+        SetAnswer::Refused(e) => expect_refusal(rt, refusal_of(e), stored, s),
     }
 }
 
 // So does a question, also of a module about itself.
-pub fn expect_question(set: &[u8], request: &[u8], stored: usize, s: &[u8]) {
+pub fn expect_question(rt: &HostRuntime, set: &[u8], request: &[u8], stored: usize, s: &[u8]) {
     let words = [0u64; WORDS];
     match check_access(set, request, &words, AccessKind::Access, b"a", b"a", b"") {
-        AccessAnswer::Verdict(_) => expect(3 < stored, b"question"),
-        AccessAnswer::Refused(e) => expect_refusal(refusal_of(e), stored, s),
+        AccessAnswer::Verdict(_) => expect(rt, 3 < stored, b"question"),
+        AccessAnswer::Refused(e) => expect_refusal(rt, refusal_of(e), stored, s),
     }
 }

@@ -3,44 +3,53 @@
 #![tactic(auto)]
 
 use access::access::{AccessAnswer, AccessCheckResult, AccessKind, check_access};
-use libc::{STDERR_FILENO, STDOUT_FILENO};
 use messages::tell_absent;
 use resolution::configuration::WORDS;
 use resolution::resolve::Outcome;
 
-fn say(text: &[u8]) {
-    io::write_all(STDOUT_FILENO, text);
+fn say(rt: &HostRuntime, text: &[u8]) {
+    let _ = rt.write_all(text);
 }
 
-fn refused(number: usize) {
-    say(b"refused ");
-    io::print_decimal(STDOUT_FILENO, number as u64);
-    say(b"\n");
+fn refused(rt: &HostRuntime, number: usize) {
+    say(rt, b"refused ");
+    let _ = rt.print(number);
+    say(rt, b"\n");
 }
 
 // This text and the verdict.
-fn verdict(text: &[u8], answer: AccessAnswer) {
+fn verdict(rt: &HostRuntime, text: &[u8], answer: AccessAnswer) {
     match answer {
         AccessAnswer::Verdict(v) => {
-            say(text);
+            say(rt, text);
             match v {
-                AccessCheckResult::Allowed => say(b"Allowed\n"),
-                AccessCheckResult::NotReadable => say(b"NotReadable\n"),
-                AccessCheckResult::NotExported => say(b"NotExported\n"),
-                AccessCheckResult::NotOpened => say(b"NotOpened\n"),
+                AccessCheckResult::Allowed => say(rt, b"Allowed\n"),
+                AccessCheckResult::NotReadable => say(rt, b"NotReadable\n"),
+                AccessCheckResult::NotExported => say(rt, b"NotExported\n"),
+                AccessCheckResult::NotOpened => say(rt, b"NotOpened\n"),
             }
         }
-        AccessAnswer::Refused(e) => refused(e.number()),
+        AccessAnswer::Refused(e) => refused(rt, e.number()),
     }
 }
 
 // Both questions, with the configuration that the set and the request resolve to.
-fn ask(set: &[u8], request: &[u8], words: &[u64], asker: &[u8], target: &[u8], pkg: &[u8]) {
+fn ask(
+    rt: &HostRuntime,
+    set: &[u8],
+    request: &[u8],
+    words: &[u64],
+    asker: &[u8],
+    target: &[u8],
+    pkg: &[u8],
+) {
     verdict(
+        rt,
         b"access ",
         check_access(set, request, words, AccessKind::Access, asker, target, pkg),
     );
     verdict(
+        rt,
         b"reflection ",
         check_access(
             set,
@@ -54,25 +63,33 @@ fn ask(set: &[u8], request: &[u8], words: &[u64], asker: &[u8], target: &[u8], p
     );
 }
 
-fn answer<'a>(set: &'a [u8], request: &'a [u8], asker: &[u8], target: &[u8], pkg: &[u8]) {
+fn answer<'a>(
+    rt: &HostRuntime,
+    set: &'a [u8],
+    request: &'a [u8],
+    asker: &[u8],
+    target: &[u8],
+    pkg: &[u8],
+) {
     let mut words = [0u64; WORDS];
     let outcome = resolution::resolve::resolve(set, request, &mut words);
     match outcome {
-        Outcome::Accepted => ask(set, request, &words, asker, target, pkg),
-        Outcome::Refused(e) => refused(e.number()),
+        Outcome::Accepted => ask(rt, set, request, &words, asker, target, pkg),
+        Outcome::Refused(e) => refused(rt, e.number()),
     }
-    tell_absent(set, request, outcome);
+    tell_absent(rt, set, request, outcome);
 }
 
 // The files, and the answer.
-fn run(asker: &[u8], target: &[u8], pkg: &[u8]) {
-    let mut set = io::large_buffer();
-    let s = files::load(b"set", b"ask: cannot read the file set", &mut set);
+fn run(rt: &HostRuntime, asker: &[u8], target: &[u8], pkg: &[u8]) {
+    let mut set = [0u8; 65536];
+    let s = files::load(rt, b"set", b"ask: cannot read the file set", &mut set);
     if !s.is_read {
         return;
     }
-    let mut request = io::large_buffer();
+    let mut request = [0u8; 65536];
     let q = files::load(
+        rt,
         b"request",
         b"ask: cannot read the file request",
         &mut request,
@@ -82,31 +99,28 @@ fn run(asker: &[u8], target: &[u8], pkg: &[u8]) {
     }
     let n = s.len;
     let m = q.len;
-    answer(&set[..n], &request[..m], asker, target, pkg);
+    answer(rt, &set[..n], &request[..m], asker, target, pkg);
 }
 
-fn main() {
-    if os::arg_count() != 4 {
-        io::write_all(STDERR_FILENO, b"usage: ask ASKER TARGET PACKAGE\n");
+fn main(rt: HostRuntime) {
+    if !files::has_arg(&rt, 3) || files::has_arg(&rt, 4) {
+        let _ = rt.stderr().write_all(b"usage: ask ASKER TARGET PACKAGE\n");
         return;
     }
-    let mut asker = io::buffer();
-    let a = os::arg(1, &mut asker);
-    if os::errno() != 0 {
-        os::fail(b"ask: ASKER");
+    let mut asker = [0u8; 4096];
+    let a = files::load_arg(&rt, 1, b"ask: ASKER", &mut asker);
+    if !a.is_read {
         return;
     }
-    let mut target = io::buffer();
-    let t = os::arg(2, &mut target);
-    if os::errno() != 0 {
-        os::fail(b"ask: TARGET");
+    let mut target = [0u8; 4096];
+    let t = files::load_arg(&rt, 2, b"ask: TARGET", &mut target);
+    if !t.is_read {
         return;
     }
-    let mut pkg = io::buffer();
-    let p = os::arg(3, &mut pkg);
-    if os::errno() != 0 {
-        os::fail(b"ask: PACKAGE");
+    let mut pkg = [0u8; 4096];
+    let p = files::load_arg(&rt, 3, b"ask: PACKAGE", &mut pkg);
+    if !p.is_read {
         return;
     }
-    run(&asker[..a], &target[..t], &pkg[..p]);
+    run(&rt, &asker[..a.len], &target[..t.len], &pkg[..p.len]);
 }

@@ -4,7 +4,6 @@
 #![tactic(auto)]
 
 use class_reader::class_file::from_class_file;
-use libc::STDOUT_FILENO;
 use records::bytes::{be16, byte, head, part, same, tail};
 use records::error::ModuleError;
 use records::jar::Written;
@@ -16,24 +15,24 @@ struct Answer {
     at: usize,
 }
 
-fn say(text: &[u8]) {
-    io::write_all(STDOUT_FILENO, text);
+fn say(rt: &HostRuntime, text: &[u8]) {
+    let _ = rt.write_all(text);
 }
 
 // A space and a number.
-fn number(n: usize) {
-    say(b" ");
-    io::print_decimal(STDOUT_FILENO, n as u64);
+fn number(rt: &HostRuntime, n: usize) {
+    say(rt, b" ");
+    let _ = rt.print(n);
 }
 
-fn print(a: Answer) {
+fn print(rt: &HostRuntime, a: Answer) {
     if a.number == 0 {
-        say(b" written");
+        say(rt, b" written");
     } else {
-        say(b" refused");
-        number(a.number);
+        say(rt, b" refused");
+        number(rt, a.number);
     }
-    number(a.at);
+    number(rt, a.at);
 }
 
 fn answer_of(w: Written) -> Answer {
@@ -52,45 +51,46 @@ fn answer_of(w: Written) -> Answer {
 }
 
 // This text where it does not hold.
-fn expect(holds: bool, text: &[u8]) {
+fn expect(rt: &HostRuntime, holds: bool, text: &[u8]) {
     if !holds {
-        say(b" differs: ");
-        say(text);
+        say(rt, b" differs: ");
+        say(rt, text);
     }
 }
 
 // The output holds the records, and behind them what stood there before.
-fn expect_output(out: &[u8], before: &[u8], records: &[u8], text: &[u8]) {
+fn expect_output(rt: &HostRuntime, out: &[u8], before: &[u8], records: &[u8], text: &[u8]) {
     let n = records.len();
-    expect(same(head(out, n), records), text);
-    expect(same(tail(out, n), tail(before, n)), text);
+    expect(rt, same(head(out, n), records), text);
+    expect(rt, same(tail(out, n), tail(before, n)), text);
 }
 
 // An output of eight bytes, which no record fits, is refused with the bytes needed and left as it was.
-fn check_short(class: &[u8], n: usize) {
+fn check_short(rt: &HostRuntime, class: &[u8], n: usize) {
     if n == 0 {
         return;
     }
     let mut out = [7u8; 8];
     let a = answer_of(from_class_file(class, &mut out));
-    expect(a.number == 4, b"too short");
-    expect(a.at == n, b"bytes needed");
+    expect(rt, a.number == 4, b"too short");
+    expect(rt, a.at == n, b"bytes needed");
     expect(
+        rt,
         same(&out, b"\x07\x07\x07\x07\x07\x07\x07\x07"),
         b"changed though too short",
     );
 }
 
 // The answer for the class file, and what differs from what is stored.
-fn check(class: &[u8], wanted: Answer, records: &[u8], before: &[u8]) {
+fn check(rt: &HostRuntime, class: &[u8], wanted: Answer, records: &[u8], before: &[u8]) {
     let mut out = [7u8; 131072];
     let a = answer_of(from_class_file(class, &mut out));
-    print(a);
-    expect(a.number == wanted.number, b"number");
-    expect(a.at == wanted.at, b"offset or length");
-    expect_output(&out, before, records, b"output");
-    check_short(class, records.len());
-    say(b"\n");
+    print(rt, a);
+    expect(rt, a.number == wanted.number, b"number");
+    expect(rt, a.at == wanted.at, b"offset or length");
+    expect_output(rt, &out, before, records, b"output");
+    check_short(rt, class, records.len());
+    say(rt, b"\n");
 }
 
 // Four bytes as a number.
@@ -99,9 +99,9 @@ fn be32(s: &[u8]) -> usize {
 }
 
 // The case at the front, and what stands behind it.
-fn case<'a>(s: &'a [u8], before: &[u8]) -> &'a [u8] {
+fn case<'a>(rt: &HostRuntime, s: &'a [u8], before: &[u8]) -> &'a [u8] {
     let n = byte(s, 0);
-    say(part(s, 1, n));
+    say(rt, part(s, 1, n));
     let t = tail(s, 1 + n);
     let size = be32(t);
     let class = part(t, 4, size);
@@ -110,36 +110,34 @@ fn case<'a>(s: &'a [u8], before: &[u8]) -> &'a [u8] {
     let at = be32(tail(u, 1));
     let v = tail(u, 5);
     if number == 0 {
-        check(class, Answer { number, at }, head(v, at), before);
+        check(rt, class, Answer { number, at }, head(v, at), before);
         return tail(v, at);
     }
-    check(class, Answer { number, at }, head(v, 0), before);
+    check(rt, class, Answer { number, at }, head(v, 0), before);
     v
 }
 
 // All cases, at most 4,096.
-fn run(cases: &[u8], before: &[u8]) {
+fn run(rt: &HostRuntime, cases: &[u8], before: &[u8]) {
     let mut rest = cases;
     let mut i: usize = 0;
     while i < 4096 {
         if rest.len() == 0 {
             return;
         }
-        let behind = case(rest, before);
+        let behind = case(rt, rest, before);
         rest = behind;
         i += 1;
     }
 }
 
-fn main() {
-    let fd = os::open_read(b"cases");
-    if fd < 0 {
-        os::fail(b"classes: cannot read the file cases");
-        return;
-    }
+fn main(rt: HostRuntime) {
     let mut buffer = [0u8; 524288];
-    let n = io::read_full(fd, &mut buffer);
-    libc::close(fd);
-    let before = [7u8; 131072];
-    run(head(&buffer, n), &before);
+    match files::read(&rt, b"cases", &mut buffer) {
+        Ok(n) => {
+            let before = [7u8; 131072];
+            run(&rt, head(&buffer, n), &before);
+        }
+        Err(e) => files::fail(&rt, b"classes: cannot read the file cases", e),
+    }
 }

@@ -2,80 +2,69 @@
 #![tactic(auto)]
 
 use class_reader::class_file::from_class_file;
-use libc::{STDERR_FILENO, STDOUT_FILENO};
 use records::bytes::head;
 use records::error::ModuleError;
 use records::jar::Written;
 
-fn say(text: &[u8]) {
-    io::write_all(STDOUT_FILENO, text);
+fn say(rt: &HostRuntime, text: &[u8]) {
+    let _ = rt.write_all(text);
 }
 
 // This text, a number, and the end of the line.
-fn line(text: &[u8], n: usize) {
-    say(text);
-    io::print_decimal(STDOUT_FILENO, n as u64);
-    say(b"\n");
+fn line(rt: &HostRuntime, text: &[u8], n: usize) {
+    say(rt, text);
+    let _ = rt.print(n);
+    say(rt, b"\n");
 }
 
-fn refused(e: ModuleError) {
+fn refused(rt: &HostRuntime, e: ModuleError) {
     match e {
-        ModuleError::DescriptorParseError(at) => line(b"refused 8 ", at),
-        ModuleError::OutputTooShort(n) => line(b"refused 4 ", n),
-        _ => line(b"refused ", e.number()),
+        ModuleError::DescriptorParseError(at) => line(rt, b"refused 8 ", at),
+        ModuleError::OutputTooShort(n) => line(rt, b"refused 4 ", n),
+        _ => line(rt, b"refused ", e.number()),
     }
 }
 
 // Writes the records to the file, which is made or overwritten.
-fn store(file: &[u8], records: &[u8]) {
-    let fd = os::open_overwrite(file);
-    if fd < 0 {
-        os::fail(b"describe: cannot write OUT");
-        return;
-    }
-    let is_written = io::write_all(fd, records);
-    libc::close(fd);
-    if is_written {
-        line(b"written ", records.len());
-    } else {
-        os::fail(b"describe: cannot write OUT");
+fn store(rt: &HostRuntime, file: &[u8], records: &[u8]) {
+    match files::write(rt, file, records) {
+        Ok(()) => line(rt, b"written ", records.len()),
+        Err(e) => files::fail(rt, b"describe: cannot write OUT", e),
     }
 }
 
-fn describe(class: &[u8], file: &[u8]) {
-    let mut out = io::large_buffer();
+fn describe(rt: &HostRuntime, class: &[u8], file: &[u8]) {
+    let mut out = [0u8; 65536];
     match from_class_file(class, &mut out) {
-        Written::Bytes(n) => store(file, head(&out, n)),
-        Written::Refused(e) => refused(e),
+        Written::Bytes(n) => store(rt, file, head(&out, n)),
+        Written::Refused(e) => refused(rt, e),
     }
 }
 
-fn run(class: &[u8], file: &[u8]) {
-    let mut buffer = io::large_buffer();
-    let c = files::load(class, b"describe: cannot read FILE", &mut buffer);
+fn run(rt: &HostRuntime, class: &[u8], file: &[u8]) {
+    let mut buffer = [0u8; 65536];
+    let c = files::load(rt, class, b"describe: cannot read FILE", &mut buffer);
     if !c.is_read {
         return;
     }
     let n = c.len;
-    describe(&buffer[..n], file);
+    describe(rt, &buffer[..n], file);
 }
 
-fn main() {
-    if os::arg_count() != 3 {
-        io::write_all(STDERR_FILENO, b"usage: describe FILE OUT\n");
+fn main(rt: HostRuntime) {
+    if !files::has_arg(&rt, 2) || files::has_arg(&rt, 3) {
+        let _ = rt.stderr().write_all(b"usage: describe FILE OUT\n");
         return;
     }
-    let mut class = io::buffer();
-    let c = os::arg(1, &mut class);
-    if os::errno() != 0 {
-        os::fail(b"describe: FILE");
+    let mut class = [0u8; 4096];
+    let c = files::load_arg(&rt, 1, b"describe: FILE", &mut class);
+    if !c.is_read {
         return;
     }
-    let mut file = io::buffer();
-    let f = os::arg(2, &mut file);
-    if os::errno() != 0 {
-        os::fail(b"describe: OUT");
+    let mut file = [0u8; 4096];
+    let f = files::load_arg(&rt, 2, b"describe: OUT", &mut file);
+    if !f.is_read {
         return;
     }
-    run(&class[..c], &file[..f]);
+    run(&rt, &class[..c.len], &file[..f.len]);
 }

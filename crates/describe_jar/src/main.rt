@@ -2,57 +2,56 @@
 // package records in the file `packages`. The file is left alone on a refusal.
 #![tactic(auto)]
 
-use libc::{STDERR_FILENO, STDOUT_FILENO};
 use records::bytes::head;
 use records::error::ModuleError;
 use records::jar::{Written, automatic_from_jar_name};
 
-fn say(text: &[u8]) {
-    io::write_all(STDOUT_FILENO, text);
+fn say(rt: &HostRuntime, text: &[u8]) {
+    let _ = rt.write_all(text);
 }
 
 // This text, a number, and the end of the line.
-fn line(text: &[u8], n: usize) {
-    say(text);
-    io::print_decimal(STDOUT_FILENO, n as u64);
-    say(b"\n");
+fn line(rt: &HostRuntime, text: &[u8], n: usize) {
+    say(rt, text);
+    let _ = rt.print(n);
+    say(rt, b"\n");
 }
 
-fn refused(e: ModuleError) {
+fn refused(rt: &HostRuntime, e: ModuleError) {
     match e {
-        ModuleError::Malformed(_, at) => line(b"refused 1 ", at),
-        ModuleError::OutputTooShort(n) => line(b"refused 4 ", n),
-        _ => line(b"refused ", e.number()),
+        ModuleError::Malformed(_, at) => line(rt, b"refused 1 ", at),
+        ModuleError::OutputTooShort(n) => line(rt, b"refused 4 ", n),
+        _ => line(rt, b"refused ", e.number()),
     }
 }
 
 // Writes the records to the file, which is made or overwritten.
-fn store(file: &[u8], records: &[u8]) {
-    let fd = os::open_overwrite(file);
-    if fd < 0 {
-        os::fail(b"describe_jar: cannot write OUT");
-        return;
-    }
-    let is_written = io::write_all(fd, records);
-    libc::close(fd);
-    if is_written {
-        line(b"written ", records.len());
-    } else {
-        os::fail(b"describe_jar: cannot write OUT");
+fn store(rt: &HostRuntime, file: &[u8], records: &[u8]) {
+    match files::write(rt, file, records) {
+        Ok(()) => line(rt, b"written ", records.len()),
+        Err(e) => files::fail(rt, b"describe_jar: cannot write OUT", e),
     }
 }
 
-fn describe(jar: &[u8], given: bool, manifest: &[u8], packages: &[u8], file: &[u8]) {
-    let mut out = io::large_buffer();
+fn describe(
+    rt: &HostRuntime,
+    jar: &[u8],
+    given: bool,
+    manifest: &[u8],
+    packages: &[u8],
+    file: &[u8],
+) {
+    let mut out = [0u8; 65536];
     match automatic_from_jar_name(jar, given, manifest, packages, &mut out) {
-        Written::Bytes(n) => store(file, head(&out, n)),
-        Written::Refused(e) => refused(e),
+        Written::Bytes(n) => store(rt, file, head(&out, n)),
+        Written::Refused(e) => refused(rt, e),
     }
 }
 
-fn run(jar: &[u8], given: bool, manifest: &[u8], file: &[u8]) {
-    let mut buffer = io::large_buffer();
+fn run(rt: &HostRuntime, jar: &[u8], given: bool, manifest: &[u8], file: &[u8]) {
+    let mut buffer = [0u8; 65536];
     let p = files::load(
+        rt,
         b"packages",
         b"describe_jar: cannot read the file packages",
         &mut buffer,
@@ -61,50 +60,39 @@ fn run(jar: &[u8], given: bool, manifest: &[u8], file: &[u8]) {
         return;
     }
     let n = p.len;
-    describe(jar, given, manifest, &buffer[..n], file);
+    describe(rt, jar, given, manifest, &buffer[..n], file);
 }
 
 // The manifest name, where one is given.
-fn named(jar: &[u8], file: &[u8]) {
-    if os::arg_count() == 3 {
-        run(jar, false, b"", file);
+fn named(rt: &HostRuntime, jar: &[u8], file: &[u8]) {
+    if !files::has_arg(rt, 3) {
+        run(rt, jar, false, b"", file);
         return;
     }
-    let mut manifest = io::buffer();
-    let m = os::arg(3, &mut manifest);
-    if os::errno() != 0 {
-        os::fail(b"describe_jar: MANIFEST-NAME");
+    let mut manifest = [0u8; 4096];
+    let m = files::load_arg(rt, 3, b"describe_jar: MANIFEST-NAME", &mut manifest);
+    if !m.is_read {
         return;
     }
-    run(jar, true, &manifest[..m], file);
+    run(rt, jar, true, &manifest[..m.len], file);
 }
 
-fn main() {
-    if os::arg_count() < 3 {
-        io::write_all(
-            STDERR_FILENO,
-            b"usage: describe_jar JARNAME OUT [MANIFEST-NAME]\n",
-        );
+fn main(rt: HostRuntime) {
+    if !files::has_arg(&rt, 2) || files::has_arg(&rt, 4) {
+        let _ = rt
+            .stderr()
+            .write_all(b"usage: describe_jar JARNAME OUT [MANIFEST-NAME]\n");
         return;
     }
-    if 4 < os::arg_count() {
-        io::write_all(
-            STDERR_FILENO,
-            b"usage: describe_jar JARNAME OUT [MANIFEST-NAME]\n",
-        );
+    let mut jar = [0u8; 4096];
+    let j = files::load_arg(&rt, 1, b"describe_jar: JARNAME", &mut jar);
+    if !j.is_read {
         return;
     }
-    let mut jar = io::buffer();
-    let j = os::arg(1, &mut jar);
-    if os::errno() != 0 {
-        os::fail(b"describe_jar: JARNAME");
+    let mut file = [0u8; 4096];
+    let f = files::load_arg(&rt, 2, b"describe_jar: OUT", &mut file);
+    if !f.is_read {
         return;
     }
-    let mut file = io::buffer();
-    let f = os::arg(2, &mut file);
-    if os::errno() != 0 {
-        os::fail(b"describe_jar: OUT");
-        return;
-    }
-    named(&jar[..j], &file[..f]);
+    named(&rt, &jar[..j.len], &file[..f.len]);
 }

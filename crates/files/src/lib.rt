@@ -1,20 +1,25 @@
-// Files of a program's working folder, and what is said on standard error where one cannot be read or written.
+// Files of a program's working folder, its arguments, and what is said on standard error where one cannot be read or written.
 #![tactic(auto)]
 
 ghost use Rattle.std.specs.Prelude.{IfOk};
 ghost use Rattle.files.specs.Counts.{IsPrefixLen};
 
+use std::env::FillError;
 use std::fs::File;
-use std::io;
 use std::io::{Cursor, Read, Write};
+use std::rt::Env;
 use std::str::from_utf8;
+use std::{fs, io};
 
-// The system's numbers of two errors: an argument that is invalid, and bytes that are no text.
+// The system's numbers of three errors: an argument that is invalid, a name that is too long, and bytes that are no text.
 const EINVAL: i32 = 22;
+
+const ENAMETOOLONG: i32 = 36;
 
 const EILSEQ: i32 = 84;
 
-// How many bytes of a file are in its buffer, and whether the file was read to its end or fills the buffer.
+// How many bytes of a file or an argument are in its buffer, and whether the file was read to its end or fills the buffer, or the
+// whole argument is there.
 #[derive(Clone, Copy)]
 pub struct Loaded {
     pub len: usize,
@@ -45,7 +50,7 @@ pub fn fail(rt: &HostRuntime, what: &[u8], error: io::Error) {
 }
 
 // The path of a file's name, which is UTF-8 where std is to open it.
-pub fn path(name: &[u8]) -> io::Result<&str> {
+fn path(name: &[u8]) -> io::Result<&str> {
     from_utf8(name).map_err(|_| io::Error::from_raw_os_error(EILSEQ))
 }
 
@@ -126,4 +131,33 @@ pub fn load(rt: &HostRuntime, name: &[u8], message: &[u8], buffer: &mut [u8]) ->
         }
     }
     Loaded { len, is_read }
+}
+
+// Writes these bytes to the file, which is made or overwritten.
+pub fn write(rt: &HostRuntime, name: &[u8], bytes: &[u8]) -> io::Result<()> {
+    fs::write(rt, path(name)?, bytes)
+}
+
+// Whether the program was started with an argument of this number. Number 0 is the program's own name.
+pub fn has_arg(rt: &HostRuntime, i: usize) -> bool {
+    match rt.arg(i, &mut []) {
+        Ok(_) | Err(FillError::TooLong) => true,
+        Err(FillError::NotPresent) => false,
+    }
+}
+
+// The argument into the buffer. Where it is missing or longer than that, the message goes to standard error, with the reason.
+pub fn load_arg(rt: &HostRuntime, i: usize, message: &[u8], buffer: &mut [u8]) -> Loaded
+    ensures { IsPrefixLen result.len buffer.new }
+{
+    let code = match rt.arg(i, buffer) {
+        Ok(len) => return Loaded { len, is_read: true },
+        Err(FillError::TooLong) => ENAMETOOLONG,
+        Err(FillError::NotPresent) => EINVAL,
+    };
+    fail(rt, message, io::Error::from_raw_os_error(code));
+    Loaded {
+        len: 0,
+        is_read: false,
+    }
 }

@@ -3,7 +3,6 @@ ghost use Rattle.std.specs.Prelude.{◌≤◌, length, take, map};
 ghost use Rattle.records.specs.Set.{name_at};
 ghost use Rattle.records.specs.Sorted.{Indexed};
 
-use libc::STDERR_FILENO;
 use records::finder::{Found, name_at};
 use records::record::{Cursor, Kind, Next};
 use records::set::{SetAnswer, check_set_with, entry};
@@ -37,28 +36,28 @@ fn place_of(set: &[u8], at: usize) -> usize
     }
 }
 
-fn say(text: &[u8]) {
-    io::write_all(STDERR_FILENO, text);
+fn say(rt: &HostRuntime, text: &[u8]) {
+    let _ = rt.stderr().write_all(text);
 }
 
 // This text and a number.
-fn number(text: &[u8], n: usize) {
-    say(text);
-    io::print_decimal(STDERR_FILENO, n as u64);
+fn number(rt: &HostRuntime, text: &[u8], n: usize) {
+    say(rt, text);
+    let _ = rt.stderr().print(n);
 }
 
 // The module at offset `at` is hidden by the one of its name at offset `first`.
-fn message(set: &[u8], at: usize, first: usize)
+fn message(rt: &HostRuntime, set: &[u8], at: usize, first: usize)
     requires { length set.now ≤ 65536 }
 {
-    say(name_at(set, at));
-    number(b" of place ", place_of(set, at));
-    number(b" is hidden by place ", place_of(set, first));
-    say(b"\n");
+    say(rt, name_at(set, at));
+    number(rt, b" of place ", place_of(set, at));
+    number(rt, b" is hidden by place ", place_of(set, first));
+    say(rt, b"\n");
 }
 
 // A message for each of the n modules whose name an earlier one has.
-fn list_hidden(set: &[u8], starts: &[usize], n: usize, index: &[usize])
+fn list_hidden(rt: &HostRuntime, set: &[u8], starts: &[usize], n: usize, index: &[usize])
     requires set_len_bound { length set.now ≤ 65536 }
     requires n_bound { n ≤ 512 }
     requires n_in_bounds { n ≤ length starts.now }
@@ -70,7 +69,7 @@ fn list_hidden(set: &[u8], starts: &[usize], n: usize, index: &[usize])
         match find_in(set, starts, n, index, name_at(set, at)) {
             Found::At(j) => {
                 if j < i {
-                    message(set, at, entry(starts, j));
+                    message(rt, set, at, entry(starts, j));
                 }
             }
             Found::Nothing => {}
@@ -80,7 +79,7 @@ fn list_hidden(set: &[u8], starts: &[usize], n: usize, index: &[usize])
 }
 
 // The hidden modules of a set; none where the check refuses it.
-pub fn tell_hidden(set: &[u8])
+pub fn tell_hidden(rt: &HostRuntime, set: &[u8])
     requires { length set.now ≤ 65536 }
 {
     let mut index = [0usize; INDEX_LENGTH];
@@ -90,7 +89,7 @@ pub fn tell_hidden(set: &[u8])
         SetAnswer::Refused(_) => {}
         SetAnswer::Modules(n) => {
             let starts = checked.starts;
-            list_hidden(set, &starts, n, &index);
+            list_hidden(rt, set, &starts, n, &index);
         }
     }
 }
