@@ -35,6 +35,7 @@ use records::error::ModuleError;
 use records::jar::{Written, automatic_from_jar_name};
 use resolution::configuration::WORDS;
 use resolution::resolve::Outcome;
+use std::alloc::AllocError;
 
 // The words are those of the stored members and rows, and one behind them that is 7.
 fn expect_words(rt: &HostRuntime, words: &[u64], s: &[u8]) {
@@ -240,16 +241,22 @@ fn run(rt: &HostRuntime, cases: &[u8]) {
     }
 }
 
-// The cases in this file.
-fn run_file(rt: &HostRuntime, name: &[u8]) {
-    let mut buffer = [0u8; 524288];
-    match files::read(rt, name, &mut buffer) {
-        Ok(n) => run(rt, head(&buffer, n)),
+// The cases in this file, in this buffer.
+fn load(rt: &HostRuntime, name: &[u8], buffer: &mut [u8]) {
+    match files::read(rt, name, buffer) {
+        Ok(n) => run(rt, head(buffer, n)),
         Err(e) => files::fail(rt, b"answers: cannot read the file", e),
     }
 }
 
-fn main(rt: HostRuntime) {
-    run_file(&rt, b"cases");
-    run_file(&rt, b"more");
+// The cases in this file.
+fn run_file(rt: &HostRuntime, name: &[u8]) -> Result<(), AllocError> {
+    let mut buffer = vec![in rt.alloc(); 0u8; 524288]?;
+    load(rt, name, buffer.as_mut_slice());
+    Ok(())
+}
+
+fn main(rt: HostRuntime) -> Result<(), AllocError> {
+    run_file(&rt, b"cases")?;
+    run_file(&rt, b"more")
 }

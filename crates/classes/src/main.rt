@@ -7,6 +7,7 @@ use class_reader::class_file::from_class_file;
 use records::bytes::{be16, byte, head, part, same, tail};
 use records::error::ModuleError;
 use records::jar::Written;
+use std::alloc::AllocError;
 
 // A number, 0 where records are written, and the offset or length that goes with it.
 #[derive(Clone, Copy)]
@@ -131,13 +132,19 @@ fn run(rt: &HostRuntime, cases: &[u8], before: &[u8]) {
     }
 }
 
-fn main(rt: HostRuntime) {
-    let mut buffer = [0u8; 524288];
-    match files::read(&rt, b"cases", &mut buffer) {
+// The cases of the file, in this buffer.
+fn run_file(rt: &HostRuntime, buffer: &mut [u8]) {
+    match files::read(rt, b"cases", buffer) {
         Ok(n) => {
             let before = [7u8; 131072];
-            run(&rt, head(&buffer, n), &before);
+            run(rt, head(buffer, n), &before);
         }
-        Err(e) => files::fail(&rt, b"classes: cannot read the file cases", e),
+        Err(e) => files::fail(rt, b"classes: cannot read the file cases", e),
     }
+}
+
+fn main(rt: HostRuntime) -> Result<(), AllocError> {
+    let mut buffer = vec![in rt.alloc(); 0u8; 524288]?;
+    run_file(&rt, buffer.as_mut_slice());
+    Ok(())
 }
