@@ -108,7 +108,7 @@ fn resolve(rt: &HostRuntime, set: &[u8], request: &[u8], stored: usize, s: &[u8]
 }
 
 // A resolution at the front; what stands behind it.
-fn resolution_case(rt: &HostRuntime, s: &[u8]) -> &[u8] {
+fn resolution_case<'a>(rt: &HostRuntime, s: &'a [u8]) -> &'a [u8] {
     let t = behind(s);
     let u = behind(t);
     let v = tail(u, 1);
@@ -118,7 +118,7 @@ fn resolution_case(rt: &HostRuntime, s: &[u8]) -> &[u8] {
 }
 
 // Entries over a configuration at the front; what stands behind them.
-fn configuration_case(rt: &HostRuntime, s: &[u8]) -> &[u8] {
+fn configuration_case<'a>(rt: &HostRuntime, s: &'a [u8]) -> &'a [u8] {
     let t = behind(s);
     let u = behind(t);
     let v = behind(u);
@@ -196,7 +196,7 @@ fn write(rt: &HostRuntime, jar: &[u8], manifest: &[u8], packages: &[u8], flags: 
 }
 
 // A jar at the front; what stands behind it.
-fn jar_case(rt: &HostRuntime, s: &[u8]) -> &[u8] {
+fn jar_case<'a>(rt: &HostRuntime, s: &'a [u8]) -> &'a [u8] {
     let t = behind(s);
     let u = behind(t);
     let flags = behind(u);
@@ -206,7 +206,7 @@ fn jar_case(rt: &HostRuntime, s: &[u8]) -> &[u8] {
 }
 
 // The case at the front, and what stands behind it.
-fn case(rt: &HostRuntime, s: &[u8]) -> &[u8] {
+fn case<'a>(rt: &HostRuntime, s: &'a [u8]) -> &'a [u8] {
     say(rt, text(s));
     say(rt, b":");
     let t = behind(s);
@@ -221,7 +221,7 @@ fn case(rt: &HostRuntime, s: &[u8]) -> &[u8] {
 }
 
 // The line of the case at the front, and what stands behind it.
-fn line(rt: &HostRuntime, s: &[u8]) -> &[u8] {
+fn line<'a>(rt: &HostRuntime, s: &'a [u8]) -> &'a [u8] {
     let rest = case(rt, s);
     say(rt, b"\n");
     rest
