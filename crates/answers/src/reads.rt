@@ -55,8 +55,8 @@ pub fn add_rows(words: &mut [u64], rows: &[u8]) -> usize
 
 // The same edges at all 512 positions.
 pub fn is_reads(a: &[u64], b: &[u64]) -> bool
-    requires in_bounds { 4616 ≤ length a.now }
-    requires in_bounds_2 { 4616 ≤ length b.now }
+    requires in_a { 4616 ≤ length a.now }
+    requires in_b { 4616 ≤ length b.now }
 {
     let mut i: usize = 0;
     while i < 512 {
