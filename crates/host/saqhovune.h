@@ -13,7 +13,7 @@
  * enough stack.
  *
  * Stack on x86-64, by the frames of the compiled functions and as measured, rounded up: 710 KiB for saqhovune_resolve,
- * 320 KiB for saqhovune_from_class_file, 145 KiB for saqhovune_automatic_from_jar_name, 40 KiB for every other function.
+ * 320 KiB for saqhovune_from_class_file, 145 KiB for saqhovune_automatic_from_jar_name, 45 KiB for every other function.
  *
  * Each function returns 0 for an answer, else the number of a refusal (document 01), and always writes all four words of
  * particulars, unused ones as 0:
