@@ -19,7 +19,7 @@ use Rattle.records.proofs.Logic.{by, true≠false, or_left, or_right}
 use Rattle.resolution.specs.Lists.{Name}
 use Rattle.resolution.specs.Positions.{module_at, is_visible}
 use Rattle.resolution.specs.Observed.{has_member, has_edge}
-use Rattle.resolution.proofs.Positions.{get_d_any, visible_in}
+use Rattle.resolution.proofs.Positions.{get_or-any, visible_in}
 use Rattle.resolution.proofs.Sets.{set-length}
 use Rattle.access.specs.Access.{passes, edge_to, is_reader, reads_name}
 use Rattle.access.specs.ReadGraph.{reads_at, reads_unnamed_at}
@@ -41,7 +41,7 @@ module _ (s : List ℕ) (n : ℕ) (t : List ℕ) (g : GoodSet s n t) (c : List �
   Seen i = is_visible (modules s) i ≡ true
 
   own-name-at : (i : ℕ) → Seen i → name_of i ≡ (module_at (modules s) i).name
-  own-name-at i v = get_d_any (map (λ (m : Descriptor). m.name) (modules s)) i [] (descriptor_of []).name (omega (arith, visible_in (modules s) i v, length-map (modules s) (λ (m : Descriptor). m.name)))
+  own-name-at i v = get_or-any (map (λ (m : Descriptor). m.name) (modules s)) i [] (descriptor_of []).name (omega (arith, visible_in (modules s) i v, length-map (modules s) (λ (m : Descriptor). m.name)))
       ∙ get_or-map (λ (m : Descriptor). m.name) (modules s) i (descriptor_of [])
 
   found-own : (i : ℕ) → Seen i → find_module s (name_of i) ≡ At i

@@ -73,7 +73,7 @@ unfoldable pub PV : Name → List ℕ
 unfolding marked named list
 PV s = marked 80 86 (named s ++ list [])
 
--- ParamKind: package
+-- PK: package
 unfoldable pub PK : Name → List ℕ
 unfolding marked named
 PK p = marked 80 75 (named p)

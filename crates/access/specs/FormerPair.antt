@@ -1,5 +1,5 @@
--- "For each kind the verdicts are those of the former pair" (U8): of `check_access`, which promised `checkAccess false`, and of
--- `check_reflection_access`, which promised `checkAccess true`.
+-- "For each kind the verdicts are those of the former pair" (U8): of `check_access`, which promised `check_access false`, and of
+-- `check_reflection_access`, which promised `check_access true`.
 use Rattle.std.specs.Prelude.{◌≡◌, true, false, List, ℕ}
 use Rattle.resolution.specs.Lists.{Name}
 use Rattle.access.specs.Access.{is_reflection, check_access}

@@ -1,4 +1,4 @@
--- Cases of static requirements (U6), of the definitions over bytes: without ST, and with it (names that end in `-with`). The sets are
+-- Cases of static requirements (U6), of the definitions over bytes: without ST, and with it (names that end in `_with`). The sets are
 -- those of `RuleCases`. Where a row tells positions, java.base has 0, and a, b, c and t have 1, 2, 3 and 4.
 use Rattle.std.specs.Prelude.{◌≡◌, true, false, [], ◌∷◌, ◌++◌, replicate}
 use Rattle.std.proofs.Math.Option.{none}

@@ -1,4 +1,4 @@
--- Laws of lists and tests: the step between a test and a fact. Every test is `any p l` or `memName n l`; every fact is `Mem a l`.
+-- Laws of lists and tests: the step between a test and a fact. Every test is `any p l` or `mem_name n l`; every fact is `Mem a l`.
 use mathlib.Core.Path.{◌≡◌, refl, sym, ap, ◌∙◌, subst}
 use mathlib.Core.Bool.{Bool, true, false, ◌&&◌, ◌||◌, cond}
 use mathlib.Core.Option.{some}

@@ -90,10 +90,10 @@ not_located n s e = turned (has_module s n) refl (sym (find-name n s 0) ∙ e)
     turned false h k = (h, find_none n s h)
 
 -- within a list, what stands for its end does not matter
-pub get_d_any : {A : Type 0} (l : List A) (i : ℕ) (a b : A) → i < length l → get_or l i a ≡ get_or l i b
-get_d_any [] i a b h = absurd (omega arith)
-get_d_any (x ∷ l) zero a b h = refl
-get_d_any (x ∷ l) (suc i) a b h = get_d_any l i a b (omega arith)
+pub get_or-any : {A : Type 0} (l : List A) (i : ℕ) (a b : A) → i < length l → get_or l i a ≡ get_or l i b
+get_or-any [] i a b h = absurd (omega arith)
+get_or-any (x ∷ l) zero a b h = refl
+get_or-any (x ∷ l) (suc i) a b h = get_or-any l i a b (omega arith)
 
 pub at_mem : (s : List Descriptor) (i : ℕ) → i < length s → Mem (module_at s i) s
 at_mem [] i h = absurd (omega arith)

@@ -32,7 +32,7 @@ use Rattle.resolution.specs.Positions.{module_at, is_visible}
 use Rattle.resolution.proofs.Lists.{map_in, map-out}
 use Rattle.resolution.proofs.Accepted.{accepted}
 use Rattle.resolution.proofs.Fuel.{rounds_1024}
-use Rattle.resolution.proofs.Positions.{Located, get_d_any, located, not_located, visible_in}
+use Rattle.resolution.proofs.Positions.{Located, get_or-any, located, not_located, visible_in}
 use Rattle.resolution.proofs.Wider.{modules-over}
 
 module _ (s : List ℕ) (n : ℕ) (t : List ℕ) (g : GoodSet s n t) where
@@ -68,7 +68,7 @@ module _ (s : List ℕ) (n : ℕ) (t : List ℕ) (e : check_set s ≡ record { a
   pub name-at-start : (k : ℕ) → k < n → name_at s (get_or t k 0) ≡ (module_at (modules s) k).name
   name-at-start k l =
       ap (name_at s) (sym (get_or-take n t k 0 l)) ∙ sym (get_or-map (name_at s) (take n t) k 0)
-      ∙ get_d_any (map (name_at s) (take n t)) k (name_at s 0) (descriptor_of []).name (omega (arith, long))
+      ∙ get_or-any (map (name_at s) (take n t)) k (name_at s 0) (descriptor_of []).name (omega (arith, long))
       ∙ ap (λ (x : List Name). get_or x k (descriptor_of []).name) (good-set s n t e).names
       ∙ get_or-map (λ (m : Descriptor). m.name) (modules s) k (descriptor_of [])
 
