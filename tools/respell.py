@@ -1,7 +1,7 @@
 #!/usr/bin/env python3
-"""Spells the repository's own definitions, lemmas and fields as today's Rattle does, once, right after /opt/rattle/port/port.py.
+"""Spells the repository's own definitions, lemmas and fields as today's Rattle does, once, right after the kit's port.py.
 
-usage: tools/respell.py KIT      at the top of the repository; KIT is the folder of Rattle's library, as /opt/rattle/rattle
+usage: tools/respell.py KIT      at the top of the repository; KIT is the folder of Rattle's library, the folder `rattle` of the kit
 
 A definition or field is in snake case; a lemma keeps a dash between two words that are names of definitions, and has an underscore at
 any other place, as `begins-not_one`. Names of src/, exported C names, names of the library and those that Rattle makes stay.
