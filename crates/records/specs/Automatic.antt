@@ -1,11 +1,8 @@
 -- The name of an automatic module, by document 01's "Automatic names", step by step.
-use Rattle.std.specs.Prelude.{ℕ, ◌-◌, List, [], ◌∷◌, ◌++◌, Bool, true, false, cond, ◌&&◌, ◌||◌, length, get_or, take, drop, replicate, ltb, leb, eqb}
+use Rattle.std.specs.Prelude.{ℕ, ◌-◌, List, [], ◌∷◌, ◌++◌, Bool, true, false, cond, ◌&&◌, ◌||◌, length, get_or, take, drop, replicate, ltb, leb, eqb, Result, Ok, Err}
 use Rattle.records.specs.Bytes.{same_bytes}
 use Rattle.records.specs.Name.{is_empty}
-use Rattle.records.specs.declared.automatic.Named.{Named}
-use Rattle.records.specs.declared.automatic.Named.TheVariants.{Valid, Refused}
 use Rattle.records.specs.declared.automatic.Text.{Text}
-use Rattle.records.specs.declared.automatic.Derived.{Derived}
 use Rattle.records.specs.declared.error.ModuleError.{ModuleError}
 use Rattle.records.specs.declared.error.ModuleError.TheVariants.{TooLarge, InvalidAutomaticModuleName, InvalidModuleName}
 
@@ -123,37 +120,39 @@ is_module_name s = leb (length s) 255 && all_parts (parts_of s)
 
 -- ---- the name of the module
 
+-- whether a name is valid, or why it is refused
+abbrev pub Named : Type 0
+Named = Result (Unit {0}) ModuleError
+
 abbrev pub pick_named : Bool → Named → Named → Named
 pick_named true a b = a
 pick_named false a b = b
 
 -- a name that is derived or given: one that breaks the rule is 10
 unfoldable pub validated : List ℕ → Named
-validated n = pick_named (is_module_name n) Valid (Refused InvalidModuleName)
+validated n = pick_named (is_module_name n) (Ok tt) (Err InvalidModuleName)
 
 -- whether a jar name gives a module name: nothing left is 9
 unfoldable pub derived : List ℕ → Named
 derived jar =
-    pick_named (is_empty (without_jar (file_name jar)) || is_empty (derived_name jar)) (Refused InvalidAutomaticModuleName) (validated (derived_name jar))
+    pick_named (is_empty (without_jar (file_name jar)) || is_empty (derived_name jar)) (Err InvalidAutomaticModuleName) (validated (derived_name jar))
 
 -- a name as a text of 255 bytes: zeros follow it
 unfoldable pub text_of : List ℕ → Text
 text_of n = record { bytes = n ++ replicate (255 - length n) 0; len = length n }
 
-unfoldable pub is_valid : Named → Bool
-is_valid Valid = true
-is_valid (Refused e) = false
+-- the name as a text, or why there is none
+abbrev pub Derived : Type 0
+Derived = Result Text ModuleError
 
--- a refusal, with the empty text
-unfoldable pub refused_text : ModuleError → Derived
-refused_text e = record { answer = Refused e; text = text_of [] }
+unfoldable pub then_text : Named → Text → Derived
+then_text (Ok u) t = Ok t
+then_text (Err e) t = Err e
 
 abbrev pub pick_derived : Bool → Derived → Derived → Derived
 pick_derived true a b = a
 pick_derived false a b = b
 
--- the answer for a jar name, and the name as a text, empty where it is refused; a jar name of over 255 bytes is 2
+-- the answer for a jar name: the name as a text, or the refusal; a jar name of over 255 bytes is 2
 unfoldable pub derived_text : List ℕ → Derived
-derived_text jar =
-    pick_derived (ltb 255 (length jar)) (refused_text (TooLarge 0))
-    (record { answer = derived jar; text = text_of (cond (is_valid (derived jar)) (derived_name jar) []) })
+derived_text jar = pick_derived (ltb 255 (length jar)) (Err (TooLarge 0)) (then_text (derived jar) (text_of (derived_name jar)))

@@ -1,10 +1,12 @@
 -- Lookup of a module by its name: the first of that name, from the front.
-use Rattle.std.specs.Prelude.{ℕ, suc, List, [], ◌∷◌, map, Bool, true, false, cond, eqb}
+use Rattle.std.specs.Prelude.{ℕ, suc, List, [], ◌∷◌, map, Bool, true, false, cond, eqb, Option, Some, None}
 use Rattle.records.specs.Bytes.{same_bytes}
 use Rattle.records.specs.Descriptor.{Descriptor, descriptor_of}
 use Rattle.records.specs.Set.{blocks, modules}
-use Rattle.records.specs.declared.finder.Found.{Found}
-use Rattle.records.specs.declared.finder.Found.TheVariants.{At, Nothing}
+
+-- a module's position in its set, if it has one
+abbrev pub Found : Type 0
+Found = Option ℕ
 
 abbrev pub pick_found : Bool → Found → Found → Found
 pick_found true a b = a
@@ -12,8 +14,8 @@ pick_found false a b = b
 
 -- the position of the first of these names that is n, where the first of them has position i
 unfoldable pub find_name : List (List ℕ) → List ℕ → ℕ → Found
-find_name [] n i = Nothing
-find_name (m ∷ l) n i = pick_found (same_bytes m n) (At i) (find_name l n (suc i))
+find_name [] n i = None
+find_name (m ∷ l) n i = pick_found (same_bytes m n) (Some i) (find_name l n (suc i))
 
 -- the position of the module of this name in a set
 unfoldable pub find_module : List ℕ → List ℕ → Found
@@ -23,8 +25,8 @@ find_module s n = find_name (map (λ (m : Descriptor). m.name) (modules s)) n 0
 
 -- what is found is position k
 unfoldable pub is_at : Found → ℕ → Bool
-is_at (At i) k = eqb k i
-is_at Nothing k = false
+is_at (Some i) k = eqb k i
+is_at None k = false
 
 -- the first of these names that is n has position k
 unfoldable pub is_first : List (List ℕ) → List ℕ → ℕ → Bool

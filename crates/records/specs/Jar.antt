@@ -1,16 +1,12 @@
 -- The jar reader: an automatic module's records, for a jar and its packages (document 01, "Automatic names").
-use Rattle.std.specs.Prelude.{ℕ, ◌≤◌, List, map, ◌≡◌, Bool, true, false, length, take, ltb}
-use Rattle.records.specs.Automatic.{derived_name, derived, validated}
-use Rattle.records.specs.Request.{check_records}
+use Rattle.std.specs.Prelude.{ℕ, ◌≤◌, List, map, ◌≡◌, Bool, true, false, length, take, ltb, Result, Ok, Err}
+use Rattle.records.specs.Automatic.{Named, derived_name, derived, validated}
+use Rattle.records.specs.Request.{RecordsAnswer, check_records}
 use Rattle.records.specs.Order.{ordered, packages_of, name_in, all_short}
 use Rattle.records.specs.Output.{written, automatic_records}
-use Rattle.records.specs.declared.automatic.Named.{Named}
 use Rattle.records.specs.declared.error.Input.TheVariants.{Packages}
 use Rattle.records.specs.declared.error.ModuleError.TheVariants.{TooLarge, OutputTooShort}
-use Rattle.records.specs.declared.request.RecordsAnswer.{RecordsAnswer}
-use Rattle.records.specs.declared.request.RecordsAnswer.TheVariants as Records
-use Rattle.records.specs.declared.jar.Written.{Written}
-use Rattle.records.specs.declared.jar.Written.TheVariants.{Bytes, Refused}
+use Rattle.records.specs.declared.error.ModuleError.{ModuleError}
 
 -- the module's name: a manifest name replaces the derived one
 unfoldable pub name_for : Bool → List ℕ → List ℕ → List ℕ
@@ -26,32 +22,36 @@ named_for false jar manifest = derived jar
 unfoldable pub records_for : List ℕ → List ℕ → List ℕ
 records_for name packages = automatic_records name (ordered (packages_of packages))
 
+-- how many bytes were written, or why none
+abbrev pub Written : Type 0
+Written = Result ℕ ModuleError
+
 abbrev pub pick_written : Bool → Written → Written → Written
 pick_written true a b = a
 pick_written false a b = b
 
 -- an output of `room` bytes: too short for s is 4 with the bytes needed
 unfoldable pub fitted : ℕ → List ℕ → Written
-fitted room s = pick_written (ltb room (length s)) (Refused (OutputTooShort (length s))) (Bytes (length s))
+fitted room s = pick_written (ltb room (length s)) (Err (OutputTooShort (length s))) (Ok (length s))
 
 unfoldable pub then_name : Named → Written → Written
-then_name Named.Valid w = w
-then_name (Named.Refused e) w = Refused e
+then_name (Ok u) w = w
+then_name (Err e) w = Err e
 
 unfoldable pub then_packages : RecordsAnswer → Written → Written
-then_packages Records.Good w = w
-then_packages (Records.Refused e) w = Refused e
+then_packages (Ok u) w = w
+then_packages (Err e) w = Err e
 
 -- the answer: lengths (2), the package records (1), the name (9, 10), the output (4)
 unfoldable pub jar_answer : List ℕ → Bool → List ℕ → List ℕ → ℕ → Written
 jar_answer jar given manifest packages room =
-    pick_written (ltb 255 (length jar)) (Refused (TooLarge 0))
+    pick_written (ltb 255 (length jar)) (Err (TooLarge 0))
     (then_packages (check_records Packages packages) (then_name (named_for given jar manifest) (fitted room (records_for (name_for given jar manifest) packages))))
 
 -- the output then: s at its front and the bytes past it as they were, or all as it was
 unfoldable pub output_after : List ℕ → Written → List ℕ → List ℕ
-output_after o (Bytes n) s = written o 0 s
-output_after o (Refused e) s = o
+output_after o (Ok n) s = written o 0 s
+output_after o (Err e) s = o
 
 -- what the jar reader answers, and what it leaves in the output
 pub record JarRead (jar : List ℕ) (given : Bool) (manifest packages before after : List ℕ) (r : Written) : Type 0 where

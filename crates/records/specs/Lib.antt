@@ -13,6 +13,9 @@ pub mod Record
 pub mod Request
 pub mod Set
 pub mod Sorted
+-- What a struct's parts say.
+pub mod Before
+pub mod Modules
 -- The places of a set: the theorems speak of them, and no contract.
 pub mod Places
 -- Examples that the ten cases name.

@@ -1,16 +1,15 @@
 -- Records: a two-byte mark, a two-byte body length, the body. Their kinds, what a well-formed body of each kind is, and
 -- the bodies of one kind (document 01, "The set and the request").
-use Rattle.std.specs.Prelude.{ℕ, zero, suc, ◌+◌, List, [], ◌∷◌, Bool, true, false, cond, ◌&&◌, not, length, get_or, take, drop, ltb, leb, eqb}
+use Rattle.std.specs.Prelude.{ℕ, zero, suc, ◌+◌, List, [], ◌∷◌, Bool, true, false, cond, ◌&&◌, not, length, get_or, take, drop, ltb, leb, eqb, Option, Some, None}
 use Rattle.records.specs.Bytes.{same_bytes, u16_at}
 use Rattle.records.specs.Name.{all_unnamed, name_of, after_name, is_names, is_list, is_name_version, is_name_list}
 use Rattle.records.specs.declared.error.Input.{Input}
 use Rattle.records.specs.declared.error.Input.TheVariants.{Set, Request, Packages}
 use Rattle.records.specs.declared.record.Step.{Step}
 use Rattle.records.specs.declared.record.Step.TheVariants.{Record, Bad, End}
-use Rattle.records.specs.declared.record.Next.{Next}
-use Rattle.records.specs.declared.record.Next.TheVariants.{Body, Nothing}
 use Rattle.records.specs.declared.record.Kind.{Kind}
 use Rattle.records.specs.declared.record.Kind.TheVariants.{Module, Requires, Exports, Opens, Uses, Provides, Package, MainClass, Place, Root, LimitModules, AddReads, AddExports, AddOpens, Static, Other}
+use Rattle.records.specs.declared.record.Span.{Span}
 
 -- ---- the records of a byte string
 
@@ -159,14 +158,18 @@ bodies_in k (r ∷ rs) = cond (is_of k r) (body_of r ∷ bodies_in k rs) (bodies
 unfoldable pub bodies : Kind → List ℕ → List (List ℕ)
 bodies k s = bodies_in k (records s)
 
+-- what a cursor finds of one kind: where the body stands, and the cursor past it
+abbrev pub Next : Type 0
+Next = Option Span
+
 abbrev pub pick_next : Bool → Next → Next → Next
 pick_next true a b = a
 pick_next false a b = b
 
 -- the first record of kind k among those that stand from `at` on
 unfoldable pub next_in : Kind → ℕ → List (List ℕ) → Next
-next_in k at [] = Nothing
-next_in k at (r ∷ rs) = pick_next (is_of k r) (Body (at + 4) (length (body_of r)) (record { at = at + length r })) (next_in k (at + length r) rs)
+next_in k at [] = None
+next_in k at (r ∷ rs) = pick_next (is_of k r) (Some (record { start = at + 4; len = length (body_of r); next = record { at = at + length r } })) (next_in k (at + length r) rs)
 
 -- what a cursor at `at` finds of kind k
 unfoldable pub next_of : Kind → List ℕ → ℕ → Next
@@ -174,9 +177,9 @@ next_of k s at = next_in k at (records (drop at s))
 
 -- record i of kind k among those that stand from `at` on: where it stands
 unfoldable pub nth_in : Kind → ℕ → ℕ → List (List ℕ) → Next
-nth_in k i at [] = Nothing
+nth_in k i at [] = None
 nth_in k zero at (r ∷ rs) =
-    pick_next (is_of k r) (Body (at + 4) (length (body_of r)) (record { at = at + length r })) (nth_in k zero (at + length r) rs)
+    pick_next (is_of k r) (Some (record { start = at + 4; len = length (body_of r); next = record { at = at + length r } })) (nth_in k zero (at + length r) rs)
 nth_in k (suc i) at (r ∷ rs) = pick_next (is_of k r) (nth_in k i (at + length r) rs) (nth_in k (suc i) (at + length r) rs)
 
 unfoldable pub nth_of : Kind → ℕ → List ℕ → Next
@@ -190,9 +193,9 @@ begins (n ∷ ns) b = same_bytes (name_of b) n && begins ns (after_name b)
 
 -- the first of the records that stand from `at` on, of kind k, that begins with these names
 unfoldable pub first_in : Kind → List (List ℕ) → ℕ → List (List ℕ) → Next
-first_in k ns at [] = Nothing
+first_in k ns at [] = None
 first_in k ns at (r ∷ rs) =
-    pick_next (is_of k r && begins ns (body_of r)) (Body (at + 4) (length (body_of r)) (record { at = at + length r }))
+    pick_next (is_of k r && begins ns (body_of r)) (Some (record { start = at + 4; len = length (body_of r); next = record { at = at + length r } }))
     (first_in k ns (at + length r) rs)
 
 unfoldable pub first_of : Kind → List (List ℕ) → List ℕ → Next

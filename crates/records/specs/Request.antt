@@ -1,26 +1,23 @@
 -- A request: its check, and what it says. The check of package records is the same, with PK only
 -- (document 01, "The set and the request").
-use Rattle.std.specs.Prelude.{ℕ, ◌+◌, List, [], ◌∷◌, map, Bool, true, false, ◌&&◌, ◌||◌, not, length, ltb, eqb}
+use Rattle.std.specs.Prelude.{ℕ, ◌+◌, List, [], ◌∷◌, map, Bool, true, false, ◌&&◌, ◌||◌, not, length, ltb, eqb, Option as Maybe, Some, None, Result, Ok, Err}
 use Rattle.std.proofs.Math.Option.{Option, none, some}
 use Rattle.records.specs.Bytes.{same_bytes}
 use Rattle.records.specs.Name.{java_base, name_of, after_name, list_of, mem_name}
 use Rattle.records.specs.Record.{mark_of, body_of, records, mark_for, kind_in, is_body, bodies}
-use Rattle.records.specs.Set.{pick_checked, refused, check_set}
+use Rattle.records.specs.Set.{pick_checked, check_set, SetAnswer}
 use Rattle.records.specs.declared.record.Kind.{Kind}
 use Rattle.records.specs.declared.record.Kind.TheVariants.{Root, LimitModules, AddReads, AddExports, AddOpens, Static}
 use Rattle.records.specs.declared.error.Input.{Input}
 use Rattle.records.specs.declared.error.ModuleError.TheVariants.{Malformed, TooLarge}
-use Rattle.records.specs.declared.set.Checked.{Checked}
-use Rattle.records.specs.declared.set.SetAnswer.{SetAnswer}
-use Rattle.records.specs.declared.set.SetAnswer.TheVariants.{Modules}
-use Rattle.records.specs.declared.set.SetAnswer.TheVariants as Set
 use Rattle.records.specs.declared.request.Once.{Once}
-use Rattle.records.specs.declared.request.Row.{Row}
-use Rattle.records.specs.declared.request.Row.TheVariants.{Bad, Pass}
-use Rattle.records.specs.declared.request.RecordsAnswer.{RecordsAnswer}
-use Rattle.records.specs.declared.request.RecordsAnswer.TheVariants.{Good, Refused}
+use Rattle.records.specs.declared.error.ModuleError.{ModuleError}
 
 -- ---- the check of a request, and of package records
+
+-- whether records are well-formed, or why they are refused
+abbrev pub RecordsAnswer : Type 0
+RecordsAnswer = Result (Unit {0}) ModuleError
 
 abbrev pub pick_answer : Bool → RecordsAnswer → RecordsAnswer → RecordsAnswer
 pick_answer true a b = a
@@ -29,6 +26,10 @@ pick_answer false a b = b
 -- the one kind is the other
 unfoldable pub same_kind : Kind → Kind → Bool
 same_kind k j = eqb (mark_for k) (mark_for j)
+
+-- what one record leads to: the records passed then that stand at most once, nothing where it is at fault
+abbrev pub Row : Type 0
+Row = Maybe Once
 
 abbrev pub pick_row : Bool → Row → Row → Row
 pick_row true a b = a
@@ -43,36 +44,35 @@ none_once = record { limited = false; statics = false }
 unfoldable pub row_of : Once → Kind → List ℕ → Row
 row_of o k b =
     pick_row (is_body k b && not ((o.limited && same_kind k LimitModules) || (o.statics && same_kind k Static)))
-    (Pass (record { limited = o.limited || same_kind k LimitModules; statics = o.statics || same_kind k Static }))
-    Bad
+    (Some (record { limited = o.limited || same_kind k LimitModules; statics = o.statics || same_kind k Static }))
+    None
 
 unfoldable pub row_on : Row → RecordsAnswer → (Once → RecordsAnswer) → RecordsAnswer
-row_on Bad bad f = bad
-row_on (Pass o) bad f = f o
+row_on None bad f = bad
+row_on (Some o) bad f = f o
 
 -- the records from `at` on; the last ends where the input does (1)
 unfoldable pub check_records_from : Input → ℕ → Once → ℕ → List (List ℕ) → RecordsAnswer
-check_records_from i n o at [] = pick_answer (eqb at n) Good (Refused (Malformed i at))
+check_records_from i n o at [] = pick_answer (eqb at n) (Ok tt) (Err (Malformed i at))
 check_records_from i n o at (r ∷ rs) =
-    row_on (row_of o (kind_in i (mark_of r)) (body_of r)) (Refused (Malformed i at)) (λ o₂. check_records_from i n o₂ (at + length r) rs)
+    row_on (row_of o (kind_in i (mark_of r)) (body_of r)) (Err (Malformed i at)) (λ o₂. check_records_from i n o₂ (at + length r) rs)
 
 -- the length first (2), then the records
 unfoldable pub check_records : Input → List ℕ → RecordsAnswer
-check_records i s = pick_answer (ltb 65535 (length s)) (Refused (TooLarge 0)) (check_records_from i (length s) none_once 0 (records s))
+check_records i s = pick_answer (ltb 65535 (length s)) (Err (TooLarge 0)) (check_records_from i (length s) none_once 0 (records s))
 
 -- ---- a set and a request
 
 -- the answer on the set, and where that is taken, the answer on the request
-unfoldable pub then_request : Checked → SetAnswer → RecordsAnswer → Checked
-then_request c (Set.Refused e) a = c
-then_request c (Modules n) Good = c
-then_request c (Modules n) (Refused e) = refused e
+unfoldable pub then_request : SetAnswer → RecordsAnswer → SetAnswer
+then_request (Err e) a = Err e
+then_request (Ok c) (Ok u) = Ok c
+then_request (Ok c) (Err e) = Err e
 
 -- both lengths (2), the set, then the request
-unfoldable pub check_inputs : List ℕ → List ℕ → Checked
+unfoldable pub check_inputs : List ℕ → List ℕ → SetAnswer
 check_inputs s q =
-    pick_checked (ltb 65535 (length s) || ltb 65535 (length q)) (refused (TooLarge 0))
-    (then_request (check_set s) (check_set s).answer (check_records Input.Request q))
+    pick_checked (ltb 65535 (length s) || ltb 65535 (length q)) (Err (TooLarge 0)) (then_request (check_set s) (check_records Input.Request q))
 
 -- ---- the decoded request
 

@@ -1,5 +1,5 @@
 -- A set of modules: its check, and its module blocks (document 01, "The set and the request").
-use Rattle.std.specs.Prelude.{ℕ, ◌+◌, ◌-◌, List, [], ◌∷◌, ◌++◌, map, Bool, true, false, cond, ◌&&◌, ◌||◌, not, length, get_or, take, drop, replicate, ltb, leb, eqb}
+use Rattle.std.specs.Prelude.{ℕ, ◌+◌, ◌-◌, List, [], ◌∷◌, ◌++◌, map, Bool, true, false, cond, ◌&&◌, ◌||◌, not, length, get_or, take, drop, replicate, ltb, leb, eqb, Result, Ok, Err}
 use Rattle.records.specs.Bytes.{same_bytes}
 use Rattle.records.specs.Name.{all_unnamed, mem_name}
 use Rattle.records.specs.Record.{mark_of, size_of, body_of, records, set_kind, is_body, is_of}
@@ -10,10 +10,9 @@ use Rattle.records.specs.declared.error.Input.TheVariants.{Set}
 use Rattle.records.specs.declared.error.ModuleError.{ModuleError}
 use Rattle.records.specs.declared.error.ModuleError.TheVariants.{Malformed, TooLarge, Repeated}
 use Rattle.records.specs.declared.set.Verdict.{Verdict}
-use Rattle.records.specs.declared.set.Verdict.TheVariants.{Stop, Start, Main, Enter, Pass}
-use Rattle.records.specs.declared.set.SetAnswer.TheVariants.{Modules, Refused}
-use Rattle.records.specs.declared.set.Checked.{Checked}
+use Rattle.records.specs.declared.set.Verdict.TheVariants.{Start, Main, Enter, Pass}
 use Rattle.records.specs.declared.set.Seen.{Seen}
+use Rattle.records.specs.declared.set.Checked.{Checked}
 
 -- how many modules a set has at most
 abbrev pub module_limit : ℕ
@@ -22,6 +21,27 @@ module_limit = 512
 -- how many entries the table of its modules has: one for each, and one for the end
 abbrev pub starts_length : ℕ
 starts_length = 513
+
+-- what a record of a set leads to: the set is refused, or not
+abbrev pub VerdictAnswer : Type 0
+VerdictAnswer = Result Verdict ModuleError
+
+-- the answer on a set: the table of its modules, or why it is refused
+abbrev pub SetAnswer : Type 0
+SetAnswer = Result Checked ModuleError
+
+-- how many modules it has, or why it is refused
+abbrev pub CountAnswer : Type 0
+CountAnswer = Result ℕ ModuleError
+
+abbrev pub count_of : SetAnswer → CountAnswer
+count_of (Ok c) = Ok c.count
+count_of (Err e) = Err e
+
+-- where its modules start, nothing where it is refused
+abbrev pub starts_in : SetAnswer → List ℕ
+starts_in (Ok c) = c.starts
+starts_in (Err e) = []
 
 -- ---- the check of a set: its length, then its records front to back, at each 1, 2, 3
 
@@ -72,60 +92,57 @@ is_placed count main AddOpens = false
 is_placed count main Static = false
 is_placed count main Other = false
 
-abbrev pub pick_verdict : Bool → Verdict → Verdict → Verdict
+abbrev pub pick_verdict : Bool → VerdictAnswer → VerdictAnswer → VerdictAnswer
 pick_verdict true a b = a
 pick_verdict false a b = b
 
 -- an MO at `at`: at most 512 modules (2); no name seen before in the same place, and none ALL-UNNAMED (3)
-unfoldable pub admit_at : List ℕ → Passed → ℕ → List ℕ → Verdict
+unfoldable pub admit_at : List ℕ → Passed → ℕ → List ℕ → VerdictAnswer
 admit_at s p at b =
-    pick_verdict (leb module_limit (length p.starts)) (Stop (TooLarge at))
-    (pick_verdict (same_bytes (module_name b) all_unnamed || mem_name (module_name b) (map (name_at s) p.here)) (Stop (Repeated at))
-    Start)
+    pick_verdict (leb module_limit (length p.starts)) (Err (TooLarge at))
+    (pick_verdict (same_bytes (module_name b) all_unnamed || mem_name (module_name b) (map (name_at s) p.here)) (Err (Repeated at))
+    (Ok Start))
 
 -- a PL at `at`: at most eight places (2)
-unfoldable pub enter_at : Passed → ℕ → Verdict
-enter_at p at = pick_verdict (leb 8 p.places) (Stop (TooLarge at)) Enter
+unfoldable pub enter_at : Passed → ℕ → VerdictAnswer
+enter_at p at = pick_verdict (leb 8 p.places) (Err (TooLarge at)) (Ok Enter)
 
 -- how many places there are with that one; a PL at the front begins the first
 unfoldable pub places_at : ℕ → ℕ → ℕ
 places_at n at = cond (ltb 0 at) (n + 1) n
 
 -- a well-formed record at `at`
-unfoldable pub pass_at : List ℕ → Passed → ℕ → Kind → List ℕ → Verdict
+unfoldable pub pass_at : List ℕ → Passed → ℕ → Kind → List ℕ → VerdictAnswer
 pass_at s p at Module b = admit_at s p at b
-pass_at s p at Requires b = Pass
-pass_at s p at Exports b = Pass
-pass_at s p at Opens b = Pass
-pass_at s p at Uses b = Pass
-pass_at s p at Provides b = Pass
-pass_at s p at Package b = Pass
-pass_at s p at MainClass b = Main
+pass_at s p at Requires b = Ok Pass
+pass_at s p at Exports b = Ok Pass
+pass_at s p at Opens b = Ok Pass
+pass_at s p at Uses b = Ok Pass
+pass_at s p at Provides b = Ok Pass
+pass_at s p at Package b = Ok Pass
+pass_at s p at MainClass b = Ok Main
 pass_at s p at Place b = enter_at p at
-pass_at s p at Root b = Pass
-pass_at s p at LimitModules b = Pass
-pass_at s p at AddReads b = Pass
-pass_at s p at AddExports b = Pass
-pass_at s p at AddOpens b = Pass
-pass_at s p at Static b = Pass
-pass_at s p at Other b = Pass
+pass_at s p at Root b = Ok Pass
+pass_at s p at LimitModules b = Ok Pass
+pass_at s p at AddReads b = Ok Pass
+pass_at s p at AddExports b = Ok Pass
+pass_at s p at AddOpens b = Ok Pass
+pass_at s p at Static b = Ok Pass
+pass_at s p at Other b = Ok Pass
 
 -- the record at `at`, of kind k and body b
-unfoldable pub judge_at : List ℕ → Passed → ℕ → Kind → List ℕ → Verdict
+unfoldable pub judge_at : List ℕ → Passed → ℕ → Kind → List ℕ → VerdictAnswer
 judge_at s p at k b =
-    pick_verdict (is_placed (length p.here) p.main k && is_body k b) (pass_at s p at k b) (Stop (Malformed Set at))
+    pick_verdict (is_placed (length p.here) p.main k && is_body k b) (pass_at s p at k b) (Err (Malformed Set at))
 
 -- the table of a set's modules: where each starts, then the set's length, then zeros
 unfoldable pub table_of : List ℕ → ℕ → List ℕ
 table_of starts n = starts ++ (n ∷ replicate (module_limit - length starts) 0)
 
-unfoldable pub refused : ModuleError → Checked
-refused e = record { answer = Refused e; starts = replicate starts_length 0 }
+unfoldable pub accepted : List ℕ → ℕ → SetAnswer
+accepted starts n = Ok (record { count = length starts; starts = table_of starts n })
 
-unfoldable pub accepted : List ℕ → ℕ → Checked
-accepted starts n = record { answer = Modules (length starts); starts = table_of starts n }
-
-abbrev pub pick_checked : Bool → Checked → Checked → Checked
+abbrev pub pick_checked : Bool → SetAnswer → SetAnswer → SetAnswer
 pick_checked true a b = a
 pick_checked false a b = b
 
@@ -139,22 +156,22 @@ with_main p = record { starts = p.starts; here = p.here; places = p.places; main
 abbrev pub with_place : Passed → ℕ → Passed
 with_place p at = record { starts = p.starts; here = []; places = places_at p.places at; main = p.main }
 
-unfoldable pub go_on : Verdict → Passed → ℕ → (Passed → Checked) → Checked
-go_on (Stop e) p at f = refused e
-go_on Start p at f = f (with_module p at)
-go_on Main p at f = f (with_main p)
-go_on Enter p at f = f (with_place p at)
-go_on Pass p at f = f p
+unfoldable pub go_on : VerdictAnswer → Passed → ℕ → (Passed → SetAnswer) → SetAnswer
+go_on (Err e) p at f = Err e
+go_on (Ok Start) p at f = f (with_module p at)
+go_on (Ok Main) p at f = f (with_main p)
+go_on (Ok Enter) p at f = f (with_place p at)
+go_on (Ok Pass) p at f = f p
 
 -- the records from `at` on
-unfoldable pub check_from : List ℕ → Passed → ℕ → List (List ℕ) → Checked
-check_from s p at [] = pick_checked (eqb at (length s)) (accepted p.starts (length s)) (refused (Malformed Set at))
+unfoldable pub check_from : List ℕ → Passed → ℕ → List (List ℕ) → SetAnswer
+check_from s p at [] = pick_checked (eqb at (length s)) (accepted p.starts (length s)) (Err (Malformed Set at))
 check_from s p at (r ∷ rs) =
     go_on (judge_at s p at (set_kind (mark_of r)) (body_of r)) p at (λ p'. check_from s p' (at + length r) rs)
 
 -- the set: its length first (2), then its records
-unfoldable pub check_set : List ℕ → Checked
-check_set s = pick_checked (ltb 65535 (length s)) (refused (TooLarge 0)) (check_from s none_yet 0 (records s))
+unfoldable pub check_set : List ℕ → SetAnswer
+check_set s = pick_checked (ltb 65535 (length s)) (Err (TooLarge 0)) (check_from s none_yet 0 (records s))
 
 -- ---- module blocks: MO and the records up to the next MO or PL; PL belongs to no module
 

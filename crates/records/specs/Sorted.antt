@@ -1,22 +1,18 @@
 -- Lookup of a module by its name: a table of the positions of the visible modules in ascending byte order of their names, and a
 -- search of it by halves.
-use Rattle.std.specs.Prelude.{ℕ, zero, suc, ◌+◌, ◌-◌, ◌*◌, ◌/◌, ◌≤◌, ◌<◌, ◌≡◌, List, [], ◌∷◌, ◌++◌, map, Bool, true, false, ◌&&◌, ◌||◌, length, get_or, take, drop, set, ltb, eqb}
+use Rattle.std.specs.Prelude.{ℕ, zero, suc, ◌+◌, ◌-◌, ◌*◌, ◌/◌, ◌≤◌, ◌<◌, ◌≡◌, List, [], ◌∷◌, ◌++◌, map, Bool, true, false, ◌&&◌, ◌||◌, length, get_or, take, drop, set, ltb, eqb, Some, None, Result, Ok, Err}
+use Rattle.std.proofs.Props.{props}
 use Rattle.records.specs.Bytes.{same_bytes, before_bytes}
 use Rattle.records.specs.Name.{mem_name}
 use Rattle.records.specs.Order.{is_ordered, shifted}
-use Rattle.records.specs.Set.{name_at, module_limit}
+use Rattle.records.specs.Set.{name_at, module_limit, VerdictAnswer, SetAnswer}
 use Rattle.records.specs.Finder.{is_first}
 use Rattle.records.specs.Keys.{standing, Keys}
-use Rattle.records.specs.declared.finder.Found.{Found}
-use Rattle.records.specs.declared.finder.Found.TheVariants.{At, Nothing}
-use Rattle.records.specs.declared.keys.Standing.{Standing}
-use Rattle.records.specs.declared.keys.Standing.TheVariants.{Same, Before, After}
-use Rattle.records.specs.declared.set.Verdict.{Verdict}
-use Rattle.records.specs.declared.set.Verdict.TheVariants.{Stop, Start, Main, Enter, Pass}
-use Rattle.records.specs.declared.set.SetAnswer.TheVariants.{Modules}
+use Rattle.records.specs.Finder.{Found}
+use Rattle.std.specs.declared.cmp.Ordering.{Ordering}
+use Rattle.records.specs.declared.set.Verdict.TheVariants.{Start, Main, Enter, Pass}
 use Rattle.records.specs.declared.set.Checked.{Checked}
-use Rattle.records.specs.declared.sorted.Place.{Place}
-use Rattle.records.specs.declared.sorted.Place.TheVariants.{There, Free}
+use Rattle.std.specs.declared.cmp.Ordering.TheVariants.{Less, Equal, Greater}
 
 -- ---- the search
 
@@ -31,30 +27,34 @@ names_by names table = map (name_of_position names) table
 unfoldable pub middle_of : ℕ → ℕ → ℕ
 middle_of low high = low + (high - low) / 2
 
+-- the entry that a name stands at, or else the entry that it belongs before
+abbrev pub Place : Type 0
+Place = Result ℕ ℕ
+
 abbrev pub pick_place : Bool → Place → Place → Place
 pick_place true a b = a
 pick_place false a b = b
 
-abbrev pub by_standing : Standing → Place → Place → Place → Place
-by_standing Same a b c = a
-by_standing Before a b c = b
-by_standing After a b c = c
+abbrev pub by_standing : Ordering → Place → Place → Place → Place
+by_standing Equal a b c = a
+by_standing Less a b c = b
+by_standing Greater a b c = c
 
 -- where the name n stands among the entries of the table from low up to high, or belongs. At most k names of modules are compared
 -- with it: first that of entry m, and then each time the one in the middle of what is left
 unfoldable pub search_at : ℕ → List (List ℕ) → List ℕ → List ℕ → ℕ → ℕ → ℕ → Place
-search_at zero names table n low m high = Free low
+search_at zero names table n low m high = Err low
 search_at (suc k) names table n low m high = pick_place (ltb low high)
     (by_standing (standing (name_of_position names (get_or table m 0)) n)
-    (There m)
+    (Ok m)
     (search_at k names table n (m + 1) (middle_of (m + 1) high) high)
     (search_at k names table n low (middle_of low m) m))
-    (Free low)
+    (Err low)
 
 -- the position that stands there
 unfoldable pub found_in : List ℕ → Place → Found
-found_in table (There m) = At (get_or table m 0)
-found_in table (Free k) = Nothing
+found_in table (Ok m) = Some (get_or table m 0)
+found_in table (Err k) = None
 
 -- the position of the name n, where at most ten names are compared with it, first that of entry m
 unfoldable pub search_ten : List (List ℕ) → List ℕ → ℕ → List ℕ → Found
@@ -96,8 +96,8 @@ pub record Gap (names : List (List ℕ)) (table name : List ℕ) (r : ℕ) : Typ
   pub above : (i : ℕ) → r ≤ i → i < length table → before_bytes name (name_of_position names (get_or table i 0)) ≡ true
 
 pub record Placing (names : List (List ℕ)) (table name : List ℕ) (r : Place) : Type 0 where
-  pub there : (m : ℕ) → r ≡ There m → Held names table name m
-  pub free : (k : ℕ) → r ≡ Free k → Gap names table name k
+  pub there : (m : ℕ) → r ≡ Ok m → Held names table name m
+  pub free : (k : ℕ) → r ≡ Err k → Gap names table name k
 
 -- ---- the index: three numbers for each of 512 positions, of its name the first eight bytes, the next eight and the length; how many
 -- entries the table has; the entry that is compared first; and the table
@@ -137,6 +137,14 @@ pub record Indexed (names : List (List ℕ)) (index : List ℕ) : Type 0 where
   pub sorted : Sorted names (table_in index)
   pub keys : (p : ℕ) → has_position p (table_in index) ≡ true → KeysAt names index p
 
+-- there is one proof of it at most, so a struct may keep it
+keys-prop : (names : List (List ℕ)) (index : List ℕ) (p : ℕ) → IsProp (KeysAt names index p)
+unfolding KeysAt
+keys-prop names index p = Prim.hlevel props
+
+pub indexed-prop : (names : List (List ℕ)) (index : List ℕ) → IsProp (Indexed names index)
+indexed-prop names index = Prim.hlevel (keys-prop, props)
+
 -- ---- how it is made
 
 -- the names of the entries below h stand before the name
@@ -156,18 +164,18 @@ pub record Added (names : List (List ℕ)) (name index : List ℕ) (r : Bool) : 
 -- ---- in the check of a set
 
 -- these leave the modules as they are
-unfoldable pub leaves : Verdict → Bool
-leaves (Stop e) = false
-leaves Start = false
-leaves Main = true
-leaves Enter = true
-leaves Pass = true
+unfoldable pub leaves : VerdictAnswer → Bool
+leaves (Err e) = false
+leaves (Ok Start) = false
+leaves (Ok Main) = true
+leaves (Ok Enter) = true
+leaves (Ok Pass) = true
 
 -- where a module starts, its name is in the index with those before it
-pub record Kept (names : List (List ℕ)) (name before after : List ℕ) (r : Verdict) : Type 0 where
-  pub start : r ≡ Start → Indexed (names ++ (name ∷ [])) after
+pub record Kept (names : List (List ℕ)) (name before after : List ℕ) (r : VerdictAnswer) : Type 0 where
+  pub start : r ≡ (Ok Start) → Indexed (names ++ (name ∷ [])) after
   pub other : leaves r ≡ true → after ≡ before
 
 -- where the set is not refused, the index is that of its modules
-pub record IndexedSet (s : List ℕ) (r : Checked) (index : List ℕ) : Type 0 where
-  pub names : (n : ℕ) → r.answer ≡ Modules n → Indexed (map (name_at s) (take n r.starts)) index
+pub record IndexedSet (s : List ℕ) (r : SetAnswer) (index : List ℕ) : Type 0 where
+  pub names : (c : Checked) → r ≡ Ok c → Indexed (map (name_at s) (take c.count c.starts)) index

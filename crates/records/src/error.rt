@@ -35,6 +35,7 @@ pub enum ModuleError {
 
 impl ModuleError {
     // The number of the refusal.
+    #[tactic(auto, unfolding(crate::specs::Error::number_of))]
     pub fn number(self) -> usize
         ensures { result ≡ number_of self }
     {

@@ -6,14 +6,8 @@ ghost use Rattle.records.specs.Finder.{find_name, is_at};
 use crate::bytes::{be16, part, same, tail};
 use crate::name::name_of;
 
-// A module's position in its set.
-#[derive(Clone, Copy)]
-pub enum Found {
-    At(usize),
-    Nothing,
-}
-
 // The name of the MO at this offset of the set.
+#[tactic(auto, unfolding(crate::specs::Set::name_at, crate::specs::Set::body_at, crate::specs::Descriptor::module_name, crate::specs::Record::size_of))]
 pub fn name_at(set: &[u8], at: usize) -> &[u8]
     ensures { result.now ≡ name_at set.now at }
 {
@@ -22,30 +16,26 @@ pub fn name_at(set: &[u8], at: usize) -> &[u8]
     name_of(tail(part(t, 4, n), 3))
 }
 
-// The first of the first `count` modules of the table that has this name.
-pub fn find(set: &[u8], starts: &[usize], count: usize, name: &[u8]) -> Found
+// The position of the first of the first `count` modules of the table that has this name.
+#[tactic(auto, using(crate::proofs::finder::Laws::find_laws))]
+pub fn find(set: &[u8], starts: &[usize], count: usize, name: &[u8]) -> Option<usize>
     ensures { result ≡ find_name (map (name_at set.now) (take count starts.now)) name.now 0 }
 {
-    let mut i: usize = 0;
-    while i < count {
-        if starts.len() <= i {
-            return Found::Nothing;
+    for i in 0..count.min(starts.len()) {
+        if same(name_at(set, starts[i]), name) {
+            return Some(i);
         }
-        let at = starts[i];
-        if same(name_at(set, at), name) {
-            return Found::At(i);
-        }
-        i += 1;
     }
-    Found::Nothing
+    None
 }
 
 // Whether what is found is position i.
-pub fn is_at(found: Found, i: usize) -> bool
+#[tactic(auto, using(crate::proofs::finder::Laws::at_laws))]
+pub fn is_at(found: Option<usize>, i: usize) -> bool
     ensures { result ≡ is_at found i }
 {
     match found {
-        Found::At(j) => i == j,
-        Found::Nothing => false,
+        Some(j) => i == j,
+        None => false,
     }
 }

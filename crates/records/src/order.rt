@@ -6,57 +6,43 @@ ghost use Rattle.records.specs.Order.{name_in, is_ordered, Placed, stands_at, sh
 
 use crate::bytes::{before, byte, head, part, same, tail};
 use crate::name::name_of;
-use crate::record::{Cursor, Kind, Next};
+use crate::record::{Cursor, Kind};
 
 // The name that an entry tells.
+#[tactic(auto, unfolding(crate::specs::Order::name_in))]
 pub fn name_in(s: &[u8], entry: usize) -> &[u8]
     ensures { result.now ≡ name_in s.now entry }
 {
     part(s, entry / 65536, entry % 65536)
 }
 
-// How many of the first `count` entries have names before this one: a binary search.
-fn place_by_halves(s: &[u8], table: &[usize], count: usize, name: &[u8]) -> usize
-    requires count_in_bounds { count ≤ length table.now }
-    requires table_value { is_ordered (map (name_in s.now) (take count table.now)) ≡ true }
-    ensures { Placed s.now table.now count name.now result }
+// How many entries have names before this one.
+fn place_by_halves(s: &[u8], table: &[usize], name: &[u8]) -> usize
+    requires { is_ordered (map (name_in s.now) table.now) ≡ true }
+    ensures { Placed s.now table.now (length table.now) name.now result }
 {
-    let mut low: usize = 0;
-    let mut high = count;
-    while low < high {
-        let middle = low + (high - low) / 2;
-        if before(name_in(s, table[middle]), name) {
-            low = middle + 1;
-        } else {
-            high = middle;
-        }
-    }
-    low
+    table.partition_point(|entry| before(name_in(s, *entry), name))
 }
 
 // The same: the last is tested first, since names often come in order.
-fn place(s: &[u8], table: &[usize], count: usize, name: &[u8]) -> usize
-    requires count_in_bounds { count ≤ length table.now }
-    requires table_value { is_ordered (map (name_in s.now) (take count table.now)) ≡ true }
-    ensures { Placed s.now table.now count name.now result }
+fn place(s: &[u8], table: &[usize], name: &[u8]) -> usize
+    requires { is_ordered (map (name_in s.now) table.now) ≡ true }
+    ensures { Placed s.now table.now (length table.now) name.now result }
 {
-    if 0 < count {
-        if before(name_in(s, table[count - 1]), name) {
-            return count;
+    if let Some(last) = table.last() {
+        if before(name_in(s, *last), name) {
+            return table.len();
         }
     }
-    place_by_halves(s, table, count, name)
+    place_by_halves(s, table, name)
 }
 
-// Whether the name stands at `at`, among the first `count` entries.
-fn stands_at(s: &[u8], table: &[usize], count: usize, at: usize, name: &[u8]) -> bool
-    requires { count ≤ length table.now }
-    ensures { result ≡ stands_at s.now table.now count at name.now }
+// Whether the name stands at `at`.
+#[tactic(auto, unfolding(crate::specs::Order::stands_at))]
+fn stands_at(s: &[u8], table: &[usize], at: usize, name: &[u8]) -> bool
+    ensures { result ≡ stands_at s.now table.now (length table.now) at name.now }
 {
-    if at < count {
-        return same(name, name_in(s, table[at]));
-    }
-    false
+    at < table.len() && same(name, name_in(s, table[at]))
 }
 
 // Moves the elements from `from` up to `count` up by one.
@@ -65,11 +51,7 @@ pub fn shift(table: &mut [usize], from: usize, count: usize)
     requires count_in_bounds { count < length table.old }
     ensures { table.new ≡ shifted table.old from count }
 {
-    let mut j = count;
-    while from < j {
-        table[j] = table[j - 1];
-        j -= 1;
-    }
+    table.copy_within(from..count, from + 1);
 }
 
 // Puts the entry where its name belongs among the first `count`, unless its name stands there; returns their number.
@@ -79,8 +61,8 @@ pub fn insert(s: &[u8], table: &mut [usize], count: usize, entry: usize) -> usiz
     ensures { Inserted s.now table.old table.new count entry result }
 {
     let name = name_in(s, entry);
-    let at = place(s, table, count, name);
-    if stands_at(s, table, count, at, name) {
+    let at = place(s, &table[..count], name);
+    if stands_at(s, &table[..count], at, name) {
         return count;
     }
     shift(table, at, count);
@@ -94,12 +76,14 @@ pub fn contains(s: &[u8], table: &[usize], count: usize, name: &[u8]) -> bool
     requires table_value { is_ordered (map (name_in s.now) (take count table.now)) ≡ true }
     ensures { result ≡ mem_name name.now (map (name_in s.now) (take count table.now)) }
 {
-    let at = place_by_halves(s, table, count, name);
-    stands_at(s, table, count, at, name)
+    let table = &table[..count];
+    let at = place_by_halves(s, table, name);
+    stands_at(s, table, at, name)
 }
 
 // Puts the names in front of the records of this kind, of s from `from` up to `to`, where they belong among the first `count`;
 // returns their number.
+#[tactic(auto, using(crate::proofs::order::Packages::names_laws))]
 pub fn insert_names(
     s: &[u8],
     from: usize,
@@ -117,21 +101,16 @@ pub fn insert_names(
     let source = head(s, to);
     let mut c = Cursor { at: from };
     let mut n = count;
-    loop {
-        match c.next(source, kind) {
-            Next::Body { start, len, next } => {
-                let name = name_of(part(source, start, len));
-                n = insert(s, table, n, (start + 1) * 65536 + name.len());
-                c = next;
-            }
-            Next::Nothing => {
-                return n;
-            }
-        }
+    while let Some(span) = c.next(source, kind) {
+        let name = name_of(span.of(source));
+        n = insert(s, table, n, (span.start + 1) * 65536 + name.len());
+        c = span.next;
     }
+    n
 }
 
 // Fills the table with the packages of package records in byte order without repeats; returns their number.
+#[tactic(auto, using(crate::proofs::order::Packages::packages_laws))]
 pub fn ordered_packages(s: &[u8], table: &mut [usize]) -> usize
     requires s_len_bound { length s.now ≤ 65535 }
     requires table_room { length s.now ≤ 4 * length table.old }
@@ -142,6 +121,7 @@ pub fn ordered_packages(s: &[u8], table: &mut [usize]) -> usize
 
 // Puts the n names that stand in s from `from` on, one after the other, in byte order without repeats into the table; returns
 // their number.
+#[tactic(auto, using(crate::proofs::order::Lists::list_laws))]
 pub fn insert_list(s: &[u8], from: usize, n: usize, table: &mut [usize]) -> usize
     requires from_bound { from ≤ 65535 }
     requires n_bound { n ≤ 65535 }
@@ -150,13 +130,11 @@ pub fn insert_list(s: &[u8], from: usize, n: usize, table: &mut [usize]) -> usiz
     ensures upper_bound { result ≤ n }
 {
     let mut at = from;
-    let mut i: usize = 0;
     let mut count: usize = 0;
-    while i < n {
+    for _ in 0..n {
         let name = name_of(tail(s, at));
         count = insert(s, table, count, (at + 1) * 65536 + name.len());
         at = at + 1 + byte(s, at);
-        i += 1;
     }
     count
 }

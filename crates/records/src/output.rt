@@ -7,19 +7,18 @@ use crate::bytes::head;
 use crate::order::name_in;
 
 // Writes s at `at`, and returns the place behind it.
+#[tactic(auto, using(crate::proofs::output::Written::put_copied))]
 pub fn put(out: &mut [u8], at: usize, s: &[u8]) -> usize
     requires { at + length s.now ≤ length out.old }
     ensures { Put out.old at s.now out.new result }
 {
-    let mut i: usize = 0;
-    while i < s.len() {
-        out[at + i] = s[i];
-        i += 1;
-    }
-    at + i
+    let end = at + s.len();
+    out[at..end].copy_from_slice(s);
+    end
 }
 
 // The bytes that the records of the table's first `count` packages take: EX, OP and PK. Each takes at most 3 * 65,535 + 19.
+#[tactic(auto, using(crate::proofs::output::Sizes::size_laws))]
 pub fn size(packages: &[u8], table: &[usize], count: usize) -> usize
     requires count_in_bounds { count ≤ length table.now }
     requires count_bound { count ≤ 16384 }
@@ -27,16 +26,14 @@ pub fn size(packages: &[u8], table: &[usize], count: usize) -> usize
     ensures upper_bound { result ≤ count * 196624 }
 {
     let mut n: usize = 0;
-    let mut i: usize = 0;
-    while i < count {
-        let name = name_in(packages, table[i]);
-        n += 3 * name.len() + 19;
-        i += 1;
+    for entry in &table[..count] {
+        n += 3 * name_in(packages, *entry).len() + 19;
     }
     n
 }
 
 // Writes the name between `front` and `end`, and returns the place behind them.
+#[tactic(auto, using(crate::proofs::output::Written::put_named_laws))]
 pub fn put_named(out: &mut [u8], at: usize, front: &[u8], name: &[u8], end: &[u8]) -> usize
     requires { at + (length front.now + (length name.now + length end.now)) ≤ length out.old }
     ensures { Put out.old at (front.now ++ (name.now ++ end.now)) out.new result }
@@ -47,6 +44,7 @@ pub fn put_named(out: &mut [u8], at: usize, front: &[u8], name: &[u8], end: &[u8
 }
 
 // Writes a record with this mark whose body is the name and then `end`, and returns the place behind it.
+#[tactic(auto, using(crate::proofs::output::Records::put_record_laws))]
 fn put_record(out: &mut [u8], at: usize, mark: usize, name: &[u8], end: &[u8]) -> usize
     requires end_in_bounds { at + (5 + length name.now + length end.now) ≤ length out.old }
     requires name_len_bound { length name.now ≤ 255 }
@@ -67,6 +65,7 @@ fn put_record(out: &mut [u8], at: usize, mark: usize, name: &[u8], end: &[u8]) -
 
 // Writes a record with this mark for each of the table's first `count` packages, with a body of the name and then `extra`
 // zeros, and returns the place behind them.
+#[tactic(auto, using(crate::proofs::output::Groups::put_group_laws))]
 pub fn put_group(
     out: &mut [u8],
     at: usize,
@@ -81,17 +80,15 @@ pub fn put_group(
 {
     let end = head(b"\x00\x00", extra);
     let mut b = at;
-    let mut i: usize = 0;
-    while i < count {
-        let name = name_in(packages, table[i]);
-        b = put_record(out, b, mark, name, end);
-        i += 1;
+    for entry in &table[..count] {
+        b = put_record(out, b, mark, name_in(packages, *entry), end);
     }
     b
 }
 
 // Writes the MO record of an automatic module of this name at the front of `out`, and RQ java.base behind it, and returns
 // the place behind them.
+#[tactic(auto, using(crate::proofs::output::Records::put_module_laws))]
 fn put_module(out: &mut [u8], name: &[u8]) -> usize
     requires name_in_bounds { 26 + length name.now ≤ length out.old }
     requires name_len_bound { length name.now ≤ 255 }
@@ -120,6 +117,7 @@ fn put_module(out: &mut [u8], name: &[u8]) -> usize
 
 // Writes an EX record for each of the table's first `count` packages, and then an OP record for each, and returns the place
 // behind them.
+#[tactic(auto, using(crate::proofs::output::Automatic::put_entries_laws))]
 fn put_entries(out: &mut [u8], at: usize, packages: &[u8], table: &[usize], count: usize) -> usize
     requires { PackagesRoom out.old at packages.now table.now count }
     ensures { Put out.old at (entry_records (names_in packages.now table.now count)) out.new result }
@@ -129,6 +127,7 @@ fn put_entries(out: &mut [u8], at: usize, packages: &[u8], table: &[usize], coun
 }
 
 // Writes an EX, an OP and a PK record for each of the table's first `count` packages, and returns the place behind them.
+#[tactic(auto, using(crate::proofs::output::Automatic::put_packages_laws))]
 fn put_packages(out: &mut [u8], at: usize, packages: &[u8], table: &[usize], count: usize) -> usize
     requires { PackagesRoom out.old at packages.now table.now count }
     ensures { Put out.old at (package_records (names_in packages.now table.now count)) out.new result }
@@ -139,6 +138,7 @@ fn put_packages(out: &mut [u8], at: usize, packages: &[u8], table: &[usize], cou
 
 // Writes the records of an automatic module of this name with the table's first `count` packages at the front of `out`, and
 // returns their length.
+#[tactic(auto, using(crate::proofs::output::Automatic::packages_room))]
 pub fn write_records(
     out: &mut [u8],
     name: &[u8],

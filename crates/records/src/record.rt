@@ -1,5 +1,5 @@
 // Records: a two-byte mark, a two-byte body length, the body. A cursor walks them.
-ghost use Rattle.std.specs.Prelude.{◌≡◌, [], ◌∷◌, map, get_or, take};
+ghost use Rattle.std.specs.Prelude.{◌≡◌, [], ◌∷◌, map, get_or, take, drop};
 ghost use Rattle.records.specs.Name.{name_of};
 ghost use Rattle.records.specs.Record.{step_at, mark_for, set_kind, request_kind, kind_in, is_module, is_requires, is_body, next_of, nth_of, bodies, begins as beginsWith, first_of};
 
@@ -14,6 +14,7 @@ pub struct Cursor {
 }
 
 // What a cursor finds.
+// Kept: one match tells the three outcomes apart; as a Result of an Option, both checks would need a map_err, which is no plainer.
 #[derive(Clone, Copy)]
 pub enum Step {
     // A whole record: its body starts at start and is len bytes long; next is past it.
@@ -29,16 +30,12 @@ pub enum Step {
     End,
 }
 
-// What a cursor finds of one kind.
+// The body of a record that a cursor finds: it starts at start and is len bytes long; next is past it.
 #[derive(Clone, Copy)]
-pub enum Next {
-    // The first record of the kind: its body starts at start and is len bytes long; next is past it.
-    Body {
-        start: usize,
-        len: usize,
-        next: Cursor,
-    },
-    Nothing,
+pub struct Span {
+    pub start: usize,
+    pub len: usize,
+    pub next: Cursor,
 }
 
 // The kinds of record. A set has the first nine, a request the next six.
@@ -62,7 +59,17 @@ pub enum Kind {
     Other,
 }
 
+impl Span {
+    // The body.
+    pub fn of(self, s: &[u8]) -> &[u8]
+        ensures { result.now ≡ take self.len (drop self.start s.now) }
+    {
+        part(s, self.start, self.len)
+    }
+}
+
 impl Cursor {
+    #[tactic(auto, using(crate::proofs::record::Laws::step_laws))]
     pub fn step(self, s: &[u8]) -> Step
         ensures { result ≡ step_at s.now self.at }
     {
@@ -88,37 +95,31 @@ impl Cursor {
     }
 
     // The first record of this kind from here on. What is no whole record ends the search.
-    pub fn next(self, s: &[u8], kind: Kind) -> Next
+    #[tactic(auto, using(crate::proofs::record::Bodies::next_laws))]
+    pub fn next(self, s: &[u8], kind: Kind) -> Option<Span>
         ensures { result ≡ next_of kind s.now self.at }
     {
         let wanted = kind.mark();
         let mut c = self;
-        loop {
-            match c.step(s) {
-                Step::Record {
-                    mark,
-                    start,
-                    len,
-                    next,
-                } => {
-                    if mark == wanted {
-                        return Next::Body { start, len, next };
-                    }
-                    c = next;
-                }
-                Step::Bad => {
-                    return Next::Nothing;
-                }
-                Step::End => {
-                    return Next::Nothing;
-                }
+        while let Step::Record {
+            mark,
+            start,
+            len,
+            next,
+        } = c.step(s)
+        {
+            if mark == wanted {
+                return Some(Span { start, len, next });
             }
+            c = next;
         }
+        None
     }
 }
 
 impl Kind {
     // The mark of a kind.
+    #[tactic(auto, unfolding(crate::specs::Record::mark_for))]
     pub fn mark(self) -> usize
         ensures { result ≡ mark_for self }
     {
@@ -144,6 +145,7 @@ impl Kind {
 }
 
 // The kind of a record of a set, by its mark.
+#[tactic(auto, unfolding(crate::specs::Record::set_kind))]
 pub fn set_kind(mark: usize) -> Kind
     ensures { result ≡ set_kind mark }
 {
@@ -162,6 +164,7 @@ pub fn set_kind(mark: usize) -> Kind
 }
 
 // The kind of a record of a request.
+#[tactic(auto, unfolding(crate::specs::Record::request_kind))]
 pub fn request_kind(mark: usize) -> Kind
     ensures { result ≡ request_kind mark }
 {
@@ -177,22 +180,20 @@ pub fn request_kind(mark: usize) -> Kind
 }
 
 // The kind of a record, by its mark and by what it stands in.
+#[tactic(auto, unfolding(crate::specs::Record::kind_in, crate::specs::Record::package_kind))]
 pub fn kind_in(input: Input, mark: usize) -> Kind
     ensures { result ≡ kind_in input mark }
 {
     match input {
         Input::Set => set_kind(mark),
         Input::Request => request_kind(mark),
-        Input::Packages => {
-            if mark == 0x504B {
-                return Kind::Package;
-            }
-            Kind::Other
-        }
+        Input::Packages if mark == 0x504B => Kind::Package,
+        Input::Packages => Kind::Other,
     }
 }
 
 // The body of MO.
+#[tactic(auto, unfolding(crate::specs::Record::is_module))]
 pub fn is_module(b: &[u8]) -> bool
     ensures { result ≡ is_module b.now }
 {
@@ -203,6 +204,7 @@ pub fn is_module(b: &[u8]) -> bool
 }
 
 // The body of RQ.
+#[tactic(auto, unfolding(crate::specs::Record::is_requires))]
 pub fn is_requires(b: &[u8]) -> bool
     ensures { result ≡ is_requires b.now }
 {
@@ -215,6 +217,7 @@ pub fn is_requires(b: &[u8]) -> bool
 }
 
 // Whether b is a well-formed body of this kind.
+#[tactic(auto, unfolding(crate::specs::Record::is_body))]
 pub fn is_body(kind: Kind, b: &[u8]) -> bool
     ensures { result ≡ is_body kind b.now }
 {
@@ -239,86 +242,61 @@ pub fn is_body(kind: Kind, b: &[u8]) -> bool
 }
 
 // Record k of this kind.
-pub fn nth(s: &[u8], kind: Kind, k: usize) -> Next
+#[tactic(auto, using(crate::proofs::record::Bodies::nth_laws))]
+pub fn nth(s: &[u8], kind: Kind, k: usize) -> Option<Span>
     ensures { result ≡ nth_of kind k s.now }
 {
     let mut c = Cursor { at: 0 };
-    let mut left = k;
-    loop {
-        match c.next(s, kind) {
-            Next::Body { start, len, next } => {
-                if left == 0 {
-                    return Next::Body { start, len, next };
-                }
-                left -= 1;
-                c = next;
-            }
-            Next::Nothing => {
-                return Next::Nothing;
-            }
-        }
+    for _ in 0..k {
+        c = c.next(s, kind)?.next;
     }
+    c.next(s, kind)
 }
 
 // The body of record k of this kind, nothing where there are fewer.
+#[tactic(auto, using(crate::proofs::record::Bodies::body_laws))]
 pub fn body(s: &[u8], kind: Kind, k: usize) -> &[u8]
     ensures { result.now ≡ get_or (bodies kind s.now) k [] }
 {
     match nth(s, kind, k) {
-        Next::Body {
-            start,
-            len,
-            next: _,
-        } => part(s, start, len),
-        Next::Nothing => &s[..0],
+        Some(span) => span.of(s),
+        None => &s[..0],
     }
 }
 
-// Whether the body begins with the first `count` of these names.
-fn begins(body: &[u8], count: usize, a: &[u8], b: &[u8], c: &[u8]) -> bool
-    ensures { result ≡ beginsWith (take count (a.now ∷ b.now ∷ c.now ∷ [])) body.now }
+// Whether the body begins with these names.
+#[tactic(auto, using(crate::proofs::record::Search::begins_laws))]
+fn begins(body: &[u8], names: &[&[u8]]) -> bool
+    ensures { result ≡ beginsWith (map (λ name. name.now) names.now) body.now }
 {
-    if count == 0 {
-        return true;
+    let mut t = body;
+    for name in names {
+        if !same(name_of(t), name) {
+            return false;
+        }
+        t = after_name(t);
     }
-    if !same(name_of(body), a) {
-        return false;
-    }
-    if count == 1 {
-        return true;
-    }
-    let t = after_name(body);
-    if !same(name_of(t), b) {
-        return false;
-    }
-    if count == 2 {
-        return true;
-    }
-    same(name_of(after_name(t)), c)
+    true
 }
 
-// The first record of this kind whose body begins with the first `count` of these names.
-pub fn find_body(s: &[u8], kind: Kind, count: usize, a: &[u8], b: &[u8], c: &[u8]) -> Next
-    ensures { result ≡ first_of kind (take count (a.now ∷ b.now ∷ c.now ∷ [])) s.now }
+// The first record of this kind whose body begins with these names.
+#[tactic(auto, using(crate::proofs::record::Search::first_laws))]
+pub fn find_body(s: &[u8], kind: Kind, names: &[&[u8]]) -> Option<Span>
+    ensures { result ≡ first_of kind (map (λ name. name.now) names.now) s.now }
 {
     let mut at = Cursor { at: 0 };
-    loop {
-        match at.next(s, kind) {
-            Next::Body { start, len, next } => {
-                if begins(part(s, start, len), count, a, b, c) {
-                    return Next::Body { start, len, next };
-                }
-                at = next;
-            }
-            Next::Nothing => {
-                return Next::Nothing;
-            }
+    while let Some(span) = at.next(s, kind) {
+        if begins(span.of(s), names) {
+            return Some(span);
         }
+        at = span.next;
     }
+    None
 }
 
 // The name in front of record k of this kind, nothing where there are fewer: root k of a request, package k or used service k
 // of a module.
+#[tactic(auto, using(crate::proofs::record::Bodies::nth_name_laws))]
 pub fn nth_name(s: &[u8], kind: Kind, k: usize) -> &[u8]
     ensures { result.now ≡ get_or (map name_of (bodies kind s.now)) k [] }
 {

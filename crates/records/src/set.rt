@@ -2,12 +2,12 @@
 ghost use Rattle.std.specs.Prelude.{◌≡◌, ◌+◌, ◌-◌, ◌≤◌, ◌<◌, [], map, length, get_or, take, drop};
 ghost use Rattle.records.specs.Record.{set_kind};
 ghost use Rattle.records.specs.Descriptor.{module_name};
-ghost use Rattle.records.specs.Set.{name_at, passed_of, is_placed, admit_at, pass_at, judge_at, refused, check_set, block_at};
+ghost use Rattle.records.specs.Set.{is_placed, admit_at, pass_at, judge_at, check_set, block_at};
 ghost use Rattle.records.specs.Sorted.{Indexed, Kept, IndexedSet};
 
 use crate::bytes::{part, same, tail};
 use crate::error::{Input, ModuleError};
-use crate::finder::{Found, find};
+use crate::finder::find;
 use crate::name::name_of;
 use crate::record::{Cursor, Kind, Step, is_body, set_kind};
 use crate::sorted::{INDEX_LENGTH, add, look_first};
@@ -18,11 +18,9 @@ pub const MODULE_LIMIT: usize = 512;
 // How many entries the table of a set's modules has: one for each, and one for the end.
 pub const STARTS_LENGTH: usize = 513;
 
-// What one record of a set leads to.
+// What one record of a set leads to, where the set is not refused.
 #[derive(Clone, Copy)]
 pub enum Verdict {
-    // The set is refused.
-    Stop(ModuleError),
     // A module starts here.
     Start,
     // The module has its main class.
@@ -42,45 +40,35 @@ pub struct Seen {
     pub main: bool,
 }
 
-// How many modules a set has, or why it is refused.
-#[derive(Clone, Copy)]
-pub enum SetAnswer {
-    Modules(usize),
-    Refused(ModuleError),
-}
-
-// The answer on a set, with the table of its modules: where each starts, then the set's length, then zeros. All zeros where
-// the set is refused.
+// How many modules a set has, and the table of them: where each starts, then the set's length, then zeros.
 #[derive(Clone, Copy)]
 pub struct Checked {
-    pub answer: SetAnswer,
+    pub count: usize,
     pub starts: [usize; STARTS_LENGTH],
 }
 
+// Whether a record of this kind may stand here, where the present place has `count` modules so far and the last has its main class or
+// not.
+#[tactic(auto, unfolding(crate::specs::Set::is_placed))]
 fn is_placed(count: usize, main: bool, kind: Kind) -> bool
     ensures { result ≡ is_placed count main kind }
 {
     match kind {
-        Kind::Module => true,
-        Kind::Place => true,
-        Kind::MainClass => {
-            if main {
-                return false;
-            }
-            0 < count
-        }
-        Kind::Root => false,
-        Kind::LimitModules => false,
-        Kind::AddReads => false,
-        Kind::AddExports => false,
-        Kind::AddOpens => false,
-        Kind::Static => false,
-        Kind::Other => false,
+        Kind::Module | Kind::Place => true,
+        Kind::MainClass => !main && 0 < count,
+        Kind::Root
+        | Kind::LimitModules
+        | Kind::AddReads
+        | Kind::AddExports
+        | Kind::AddOpens
+        | Kind::Static
+        | Kind::Other => false,
         _ => 0 < count,
     }
 }
 
 // The entries of a table from number `first` on.
+#[tactic(auto, using(crate::proofs::set::Laws::later_laws))]
 fn later(starts: &[usize], first: usize) -> &[usize]
     ensures { result.now ≡ drop first starts.now }
 {
@@ -90,113 +78,94 @@ fn later(starts: &[usize], first: usize) -> &[usize]
     &starts[first..]
 }
 
-// An MO at `at`. Where it starts a module, its name is added to the index. A name that is there already is looked for among those of
-// the present place.
-fn admit(
-    set: &[u8],
-    starts: &[usize],
+// The records of a set before the one at `at`: where the modules so far start, and what was seen.
+#[derive(Clone, Copy)]
+struct Before<'a> {
+    set: &'a [u8],
+    starts: &'a [usize],
     seen: Seen,
-    index: &mut [usize],
     at: usize,
-    body: &[u8],
-) -> Verdict
-    requires first_le_count { seen.first ≤ seen.count }
-    requires count_in_bounds { seen.count ≤ length starts.now }
-    requires indexed { Indexed (map (name_at set.now) (take seen.count starts.now)) index.old }
-    ensures value { result ≡ admit_at set.now (passed_of starts.now seen) at body.now }
-    ensures kept { Kept (map (name_at set.now) (take seen.count starts.now)) (module_name body.now) index.old index.new result }
-{
-    let count = seen.count;
-    if MODULE_LIMIT <= count {
-        return Verdict::Stop(ModuleError::TooLarge(at));
-    }
-    let name = name_of(tail(body, 3));
-    if same(name, b"ALL-UNNAMED") {
-        return Verdict::Stop(ModuleError::Repeated(at));
-    }
-    if add(set, starts, count, index, name) {
-        return Verdict::Start;
-    }
-    let first = seen.first;
-    match find(set, later(starts, first), count - first, name) {
-        Found::At(_) => Verdict::Stop(ModuleError::Repeated(at)),
-        Found::Nothing => Verdict::Start,
-    }
+    ghost first_le_count: { seen.first ≤ seen.count },
+    ghost count_in_bounds: { seen.count ≤ length starts.now },
 }
 
-fn pass(
-    set: &[u8],
-    starts: &[usize],
-    seen: Seen,
-    index: &mut [usize],
-    at: usize,
-    kind: Kind,
-    body: &[u8],
-) -> Verdict
-    requires first_le_count { seen.first ≤ seen.count }
-    requires count_in_bounds { seen.count ≤ length starts.now }
-    requires indexed { Indexed (map (name_at set.now) (take seen.count starts.now)) index.old }
-    ensures value { result ≡ pass_at set.now (passed_of starts.now seen) at kind body.now }
-    ensures kept { Kept (map (name_at set.now) (take seen.count starts.now)) (module_name body.now) index.old index.new result }
-{
-    match kind {
-        Kind::Module => admit(set, starts, seen, index, at, body),
-        Kind::MainClass => Verdict::Main,
-        Kind::Place => {
-            if 8 <= seen.places {
-                return Verdict::Stop(ModuleError::TooLarge(at));
+// The index has the names of the modules so far.
+impl<'a> Before<'a> {
+    ghost use Rattle.records.specs.Before.{names_in, passed_in};
+
+    // An MO at `at`. Where it starts a module, its name is added to the index. A name that is there already is looked for among
+    // those of the present place.
+    #[tactic(auto, using(crate::proofs::set::Laws::admit_laws))]
+    fn admit(&self, body: &[u8], index: &mut [usize]) -> Result<Verdict, ModuleError>
+        requires { Indexed (names_in self.now) index.old }
+        ensures value { result ≡ admit_at self.now.set.now (passed_in self.now) self.now.at body.now }
+        ensures kept { Kept (names_in self.now) (module_name body.now) index.old index.new result }
+    {
+        let count = self.seen.count;
+        if MODULE_LIMIT <= count {
+            return Err(ModuleError::TooLarge(self.at));
+        }
+        let name = name_of(tail(body, 3));
+        if same(name, b"ALL-UNNAMED") {
+            return Err(ModuleError::Repeated(self.at));
+        }
+        if add(self.set, self.starts, count, index, name) {
+            return Ok(Verdict::Start);
+        }
+        let first = self.seen.first;
+        match find(self.set, later(self.starts, first), count - first, name) {
+            Some(_) => Err(ModuleError::Repeated(self.at)),
+            None => Ok(Verdict::Start),
+        }
+    }
+
+    // A well-formed record at `at` that may stand there.
+    #[tactic(auto, using(crate::proofs::set::Laws::pass_laws))]
+    fn pass(&self, kind: Kind, body: &[u8], index: &mut [usize]) -> Result<Verdict, ModuleError>
+        requires { Indexed (names_in self.now) index.old }
+        ensures value { result ≡ pass_at self.now.set.now (passed_in self.now) self.now.at kind body.now }
+        ensures kept { Kept (names_in self.now) (module_name body.now) index.old index.new result }
+    {
+        match kind {
+            Kind::Module => self.admit(body, index),
+            Kind::MainClass => Ok(Verdict::Main),
+            Kind::Place => {
+                if 8 <= self.seen.places {
+                    return Err(ModuleError::TooLarge(self.at));
+                }
+                Ok(Verdict::Enter)
             }
-            Verdict::Enter
-        }
-        _ => Verdict::Pass,
-    }
-}
-
-fn judge(
-    set: &[u8],
-    starts: &[usize],
-    seen: Seen,
-    index: &mut [usize],
-    at: usize,
-    mark: usize,
-    start: usize,
-    len: usize,
-) -> Verdict
-    requires first_le_count { seen.first ≤ seen.count }
-    requires count_in_bounds { seen.count ≤ length starts.now }
-    requires indexed { Indexed (map (name_at set.now) (take seen.count starts.now)) index.old }
-    ensures value { result ≡ judge_at set.now (passed_of starts.now seen) at (set_kind mark) (take len (drop start set.now)) }
-    ensures kept { Kept (map (name_at set.now) (take seen.count starts.now)) (module_name (take len (drop start set.now))) index.old index.new result }
-{
-    let kind = set_kind(mark);
-    let body = part(set, start, len);
-    if is_placed(seen.count - seen.first, seen.main, kind) {
-        if is_body(kind, body) {
-            return pass(set, starts, seen, index, at, kind, body);
+            _ => Ok(Verdict::Pass),
         }
     }
-    Verdict::Stop(ModuleError::Malformed(Input::Set, at))
-}
 
-// The answer on a set that is refused.
-pub fn refuse(e: ModuleError) -> Checked
-    ensures { result ≡ refused e }
-{
-    Checked {
-        answer: SetAnswer::Refused(e),
-        starts: [0; STARTS_LENGTH],
+    // The record at `at`, of this kind and body.
+    #[tactic(auto, using(crate::proofs::set::Laws::judge_laws))]
+    fn judge(&self, kind: Kind, body: &[u8], index: &mut [usize]) -> Result<Verdict, ModuleError>
+        requires { Indexed (names_in self.now) index.old }
+        ensures value { result ≡ judge_at self.now.set.now (passed_in self.now) self.now.at kind body.now }
+        ensures kept { Kept (names_in self.now) (module_name body.now) index.old index.new result }
+    {
+        let seen = self.seen;
+        if is_placed(seen.count - seen.first, seen.main, kind) {
+            if is_body(kind, body) {
+                return self.pass(kind, body, index);
+            }
+        }
+        Err(ModuleError::Malformed(Input::Set, self.at))
     }
 }
 
 // The check of a set: its length, then its records from front to back, in one pass. The index, which is empty before, gets the
 // names of its modules.
-pub fn check_set_with(set: &[u8], index: &mut [usize]) -> Checked
+#[tactic(auto, using(crate::proofs::set::Laws::check_set_with_laws))]
+pub fn check_set_with(set: &[u8], index: &mut [usize]) -> Result<Checked, ModuleError>
     requires { Indexed [] index.old }
     ensures value { result ≡ check_set set.now }
     ensures indexed_set { IndexedSet set.now result index.new }
 {
     if 65535 < set.len() {
-        return refuse(ModuleError::TooLarge(0));
+        return Err(ModuleError::TooLarge(0));
     }
     let mut c = Cursor { at: 0 };
     let mut starts = [0usize; STARTS_LENGTH];
@@ -215,10 +184,13 @@ pub fn check_set_with(set: &[u8], index: &mut [usize]) -> Checked
                 len,
                 next,
             } => {
-                match judge(set, &starts, seen, index, at, mark, start, len) {
-                    Verdict::Stop(e) => {
-                        return refuse(e);
-                    }
+                let before = Before {
+                    set,
+                    starts: &starts,
+                    seen,
+                    at,
+                };
+                match before.judge(set_kind(mark), part(set, start, len), index)? {
                     Verdict::Start => {
                         let count = seen.count;
                         starts[count] = at;
@@ -238,24 +210,20 @@ pub fn check_set_with(set: &[u8], index: &mut [usize]) -> Checked
                 }
                 c = next;
             }
-            Step::Bad => {
-                return refuse(ModuleError::Malformed(Input::Set, at));
-            }
+            Step::Bad => return Err(ModuleError::Malformed(Input::Set, at)),
             Step::End => {
                 let count = seen.count;
                 look_first(set, &starts, count, index);
                 starts[count] = set.len();
-                return Checked {
-                    answer: SetAnswer::Modules(count),
-                    starts,
-                };
+                return Ok(Checked { count, starts });
             }
         }
     }
 }
 
 // The same, for a caller that looks no module up.
-pub fn check_set(set: &[u8]) -> Checked
+#[tactic(auto, using(crate::proofs::sorted::Index::check_set_laws))]
+pub fn check_set(set: &[u8]) -> Result<Checked, ModuleError>
     ensures { result ≡ check_set set.now }
 {
     let mut index = [0usize; INDEX_LENGTH];
@@ -263,6 +231,7 @@ pub fn check_set(set: &[u8]) -> Checked
 }
 
 // Entry i of a table, 0 where there is none: where module i starts, or the one before it ends.
+#[tactic(auto, using(crate::proofs::set::Laws::entry_none))]
 pub fn entry(starts: &[usize], i: usize) -> usize
     ensures { result ≡ get_or starts.now i 0 }
 {
@@ -273,6 +242,7 @@ pub fn entry(starts: &[usize], i: usize) -> usize
 }
 
 // The part of the set from the start of module i to the next entry of the table: its block, and any PL behind it.
+#[tactic(auto, using(crate::proofs::set::Laws::block_laws))]
 pub fn block<'a>(set: &'a [u8], starts: &[usize], i: usize) -> &'a [u8]
     ensures { result.now ≡ block_at set.now starts.now i }
 {

@@ -5,12 +5,16 @@ use mathlib.Core.List.{List, [], ◌∷◌}
 use mathlib.Core.Bool.{Bool, true, false, cond, ◌||◌}
 use native.Mathlib.Omega.{arith}
 use native.Mathlib.Nat.{le_of_suc-le-suc, not-suc-le-zero, add-zero}
+use native.Mathlib.Numerals.{add-one}
 use lib.ListN.{length, get_or, take, drop}
 use lib.Seq.{drop-cons, drop-length, get_or-drop}
 use lib.Dec.{eqb}
 use borrow.Author.Tests.{eq-eqb, ne_eqb}
-use Rattle.records.proofs.bytes.Laws.{same-lengths}
-use Rattle.records.specs.Bytes.{same_bytes}
+use Rattle.records.proofs.bytes.Laws.{same_is}
+use lib.Pointwise.{pointwise}
+use denote.Ref.{Bor}
+use Rattle.std.specs.Option.{MatchOption, unwrap_or}
+use Rattle.std.specs.Prelude.{Option, Some, None}
 use Rattle.records.specs.Automatic.{is_digit, has_byte, after_last, file_name, dot_jar, without_jar, starts_version, has_version, without_version}
 
 -- ---- what follows the last of a byte
@@ -66,11 +70,11 @@ file_end s zero h l = sym (last_none 47 s h.left)
 file_end s (suc i) h l = absurd (not-suc-le-zero l)
 
 module _ (s : List ℕ) (i : ℕ) (h : FileAt s i) (l : 0 < i) (r : ℕ) (er : r ≡ get_or s (i - 1) 0) where
-  pub file_found : (t : List ℕ) → r ≡ 47 → t ≡ drop i s → t ≡ file_name s
+  pub file_found : (t : List ℕ) → r ≡ 47 → t ≡ drop (i - 1 + 1) s → t ≡ file_name s
   unfolding file_name
   file_found t e et =
       let b : suc (i - 1) ≡ i = before-one i l in
-      et ∙ sym (last_at 47 s (i - 1) (omega (arith, h.within)) (sym er ∙ e) (rw b h.left) ∙ rw b)
+      et ∙ ap (λ (k : ℕ). drop k s) (add-one (i - 1) ∙ b) ∙ sym (last_at 47 s (i - 1) (omega (arith, h.within)) (sym er ∙ e) (rw b h.left) ∙ rw b)
 
   pub file_turn : (r ≡ 47 → ⊥) → FileAt s (i - 1)
   file_turn ne = record {
@@ -82,22 +86,12 @@ pub ruleset file_laws = (file_start, file_end, file_found, file_turn)
 
 -- ---- without ".jar"
 
-pub jar_short : (s : List ℕ) → length s < 4 → s ≡ without_jar s
+pub jar_cut : (s : List ℕ) (r : Option (Bor (List ℕ))) (d : Bor (List ℕ)) → d.now ≡ s
+    → MatchOption r (pointwise eqb (drop (length s - 4) s) dot_jar ≡ false) (λ (x : Bor (List ℕ)). (pointwise eqb (drop (length s - 4) s) dot_jar ≡ true) × (x.now ≡ take (length s - 4) s) × (length x.now + 4 ≡ length s))
+    → (unwrap_or r d).now ≡ without_jar s
 unfolding without_jar
-jar_short s l =
-    let n : length s - 4 ≡ 0 = omega arith in
-    rw (n, sym (same-lengths s dot_jar (λ e. omega (arith, e))))
-
-module _ (s t : List ℕ) (n : ℕ) (r : Bool) (en : n ≡ length s - 4) (et : t ≡ drop n s) (er : r ≡ same_bytes t dot_jar) where
-  pub jar_cut : (u : List ℕ) → r ≡ true → u ≡ take n s → u ≡ without_jar s
-  unfolding without_jar
-  jar_cut u e eu = cc
-
-  pub jar_none : r ≡ false → s ≡ without_jar s
-  unfolding without_jar
-  jar_none e = cc
-
-pub ruleset jar_laws = (jar_short, jar_cut, jar_none)
+jar_cut s None d e h = e ∙ rw (sym (same_is (drop (length s - 4) s) dot_jar) ∙ h)
+jar_cut s (Some x) d e h = h.1 ∙ rw (sym (same_is (drop (length s - 4) s) dot_jar) ∙ h.0)
 
 -- ---- without the version
 
@@ -181,4 +175,4 @@ module _ (s : List ℕ) (i : ℕ) (h : VersionAt s i) (l : 0 < i) (r : ℕ) (er 
         get_d_front : get_or (drop i s) 0 0 ≡ get_or s i 0
         get_d_front = get_or-drop i s 0 0 ∙ rw add-zero
 
-pub ruleset version-laws = (version-start, version-end, version-other, version-found, version-hyphen)
+pub ruleset version_laws = (version-start, version-end, version-other, version-found, version-hyphen)

@@ -254,4 +254,4 @@ module _ {s bytes : List ℕ} {len : ℕ} {gap : Bool} {i : ℕ} (h : DotsAt s b
   pub dots-room : i < length s → gap ≡ true → len + 1 < 255
   dots-room l e = let g : len + 1 ≤ i = h.gap_room e in omega (arith, h.short)
 
-pub ruleset dots-laws = (dots-start, dots-end, dots-gap, dots-put, dots_open, dots-same, dots-room)
+pub ruleset dots_laws = (dots-start, dots-end, dots-gap, dots-put, dots_open, dots-same, dots-room)

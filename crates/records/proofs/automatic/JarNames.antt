@@ -11,12 +11,12 @@ use borrow.Author.Tests.{eq-eqb, ne_eqb, lt-ltb, le-ltb}
 use Rattle.records.proofs.automatic.Dots.{joined, begun, trimmed-begun}
 use Rattle.records.specs.Bytes.{same_bytes}
 use Rattle.records.specs.Name.{is_empty}
-use Rattle.records.specs.Automatic.{is_alphanumeric, has_byte, after_last, file_name, dot_jar, without_jar, starts_version, has_version, without_version, dotted, trimmed, derived_name, is_module_name, pick_named, validated, derived, text_of, is_valid, refused_text, derived_text}
-use Rattle.records.specs.declared.automatic.Named.TheVariants.{Valid, Refused}
+use Rattle.records.specs.Automatic.{is_alphanumeric, has_byte, after_last, file_name, dot_jar, without_jar, starts_version, has_version, without_version, dotted, trimmed, derived_name, is_module_name, pick_named, validated, derived, text_of, then_text, derived_text}
 use Rattle.records.specs.declared.automatic.Text.{Text}
-use Rattle.records.specs.declared.automatic.Derived.{Derived}
+use Rattle.records.specs.Automatic.{Derived}
 use Rattle.records.specs.declared.error.ModuleError.{ModuleError}
 use Rattle.records.specs.declared.error.ModuleError.TheVariants.{TooLarge, InvalidAutomaticModuleName, InvalidModuleName}
+use Rattle.std.specs.Prelude.{Ok, Err}
 
 -- ---- lengths
 
@@ -83,35 +83,31 @@ pub text-take : (n : List ℕ) → take (text_of n).len (text_of n).bytes ≡ n
 unfolding text_of
 text-take n = take-append_seam n (replicate (255 - length n) 0)
 
-derived-empty : (jar : List ℕ) → length (without_jar (file_name jar)) ≡ 0 → derived jar ≡ Refused InvalidAutomaticModuleName
+derived-empty : (jar : List ℕ) → length (without_jar (file_name jar)) ≡ 0 → derived jar ≡ Err InvalidAutomaticModuleName
 unfolding derived is_empty
 derived-empty jar e = rw (eq-eqb (length (without_jar (file_name jar))) 0 e)
 
-derived-none : (jar : List ℕ) → length (derived_name jar) ≡ 0 → derived jar ≡ Refused InvalidAutomaticModuleName
+derived-none : (jar : List ℕ) → length (derived_name jar) ≡ 0 → derived jar ≡ Err InvalidAutomaticModuleName
 unfolding derived is_empty
 derived-none jar e = rw (eq-eqb (length (derived_name jar)) 0 e, or-true (eqb (length (without_jar (file_name jar))) 0))
 
 derived-some : (jar : List ℕ) → (length (without_jar (file_name jar)) ≡ 0 → ⊥) → (length (derived_name jar) ≡ 0 → ⊥)
-    → derived jar ≡ pick_named (is_module_name (derived_name jar)) Valid (Refused InvalidModuleName)
+    → derived jar ≡ pick_named (is_module_name (derived_name jar)) (Ok tt) (Err InvalidModuleName)
 unfolding derived is_empty validated
 derived-some jar b n = rw (ne_eqb (length (without_jar (file_name jar))) 0 b, ne_eqb (length (derived_name jar)) 0 n)
 
--- a refusal, told by the answer
-refused-told : (jar : List ℕ) (e : ModuleError) (r : Derived) → length jar ≤ 255 → derived jar ≡ Refused e → r ≡ refused_text e → r ≡ derived_text jar
-unfolding derived_text refused_text is_valid
+-- a refusal, and a name
+refused-told : (jar : List ℕ) (e : ModuleError) (r : Derived) → length jar ≤ 255 → derived jar ≡ Err e → r ≡ Err e → r ≡ derived_text jar
+unfolding derived_text then_text
 refused-told jar e r l d er = er ∙ rw (le-ltb 255 (length jar) l, d)
 
-valid-told : (jar : List ℕ) (t : Text) → length jar ≤ 255 → derived jar ≡ Valid → t ≡ text_of (derived_name jar) → record { answer = Valid; text = t } ≡ derived_text jar
-unfolding derived_text is_valid
+valid-told : (jar : List ℕ) (t : Text) → length jar ≤ 255 → derived jar ≡ Ok tt → t ≡ text_of (derived_name jar) → Ok t ≡ derived_text jar
+unfolding derived_text then_text
 valid-told jar t l d et = rw (le-ltb 255 (length jar) l, d, et)
 
 -- ---- the returns
 
-pub refused-is : (e : ModuleError) → record { answer = Refused e; text = record { bytes = replicate 255 0; len = 0 } } ≡ refused_text e
-unfolding refused_text text_of
-refused-is e = refl
-
-pub derive_long : (jar : List ℕ) (r : Derived) → 255 < length jar → r ≡ refused_text (TooLarge 0) → r ≡ derived_text jar
+pub derive_long : (jar : List ℕ) (r : Derived) → 255 < length jar → r ≡ Err (TooLarge 0) → r ≡ derived_text jar
 unfolding derived_text
 derive_long jar r l er = er ∙ rw (lt-ltb 255 (length jar) l)
 
@@ -119,7 +115,7 @@ module _ (jar file base : List ℕ) (l : length jar ≤ 255) (ef : file ≡ file
   base-is : base ≡ without_jar (file_name jar)
   base-is = cc
 
-  pub derive_empty : (r : Derived) → length base ≡ 0 → r ≡ refused_text InvalidAutomaticModuleName → r ≡ derived_text jar
+  pub derive_empty : (r : Derived) → length base ≡ 0 → r ≡ Err InvalidAutomaticModuleName → r ≡ derived_text jar
   derive_empty r e er = refused-told jar InvalidAutomaticModuleName r l (derived-empty jar (sym (ap length base-is) ∙ e)) er
 
   module _ (cut : List ℕ) (ec : cut ≡ without_version base) where
@@ -134,23 +130,23 @@ module _ (jar file base : List ℕ) (l : length jar ≤ 255) (ef : file ≡ file
       len_is : t.len ≡ length (derived_name jar)
       len_is = ap (λ (u : Text). u.len) text-is ∙ text-len (derived_name jar)
 
-      pub derive_none : (r : Derived) → t.len ≡ 0 → r ≡ refused_text InvalidAutomaticModuleName → r ≡ derived_text jar
+      pub derive_none : (r : Derived) → t.len ≡ 0 → r ≡ Err InvalidAutomaticModuleName → r ≡ derived_text jar
       derive_none r e er = refused-told jar InvalidAutomaticModuleName r l (derived-none jar (sym len_is ∙ e)) er
 
       module _ (m : List ℕ) (q : Bool) (em : m ≡ take t.len t.bytes) (eq : q ≡ is_module_name m)
           (nb : length base ≡ 0 → ⊥) (nt : t.len ≡ 0 → ⊥) where
-        name-is : m ≡ derived_name jar
-        name-is = em ∙ ap (λ (u : Text). take u.len u.bytes) text-is ∙ text-take (derived_name jar)
+        name_is : m ≡ derived_name jar
+        name_is = em ∙ ap (λ (u : Text). take u.len u.bytes) text-is ∙ text-take (derived_name jar)
 
-        answer-is : derived jar ≡ pick_named q Valid (Refused InvalidModuleName)
+        answer-is : derived jar ≡ pick_named q (Ok tt) (Err InvalidModuleName)
         answer-is =
             derived-some jar (λ e. nb (ap length base-is ∙ e)) (λ e. nt (len_is ∙ e))
-            ∙ ap (λ (b : Bool). pick_named b Valid (Refused InvalidModuleName)) (sym (eq ∙ ap is_module_name name-is))
+            ∙ ap (λ (b : Bool). pick_named b (Ok tt) (Err InvalidModuleName)) (sym (eq ∙ ap is_module_name name_is))
 
-        pub derive_valid : q ≡ true → record { answer = Valid; text = t } ≡ derived_text jar
+        pub derive_valid : q ≡ true → Ok t ≡ derived_text jar
         derive_valid e = valid-told jar t l (answer-is ∙ rw e) text-is
 
-        pub derive_invalid : (r : Derived) → q ≡ false → r ≡ refused_text InvalidModuleName → r ≡ derived_text jar
+        pub derive_invalid : (r : Derived) → q ≡ false → r ≡ Err InvalidModuleName → r ≡ derived_text jar
         derive_invalid r e er = refused-told jar InvalidModuleName r l (answer-is ∙ rw e) er
 
 pub ruleset derive_laws = (derive_long, derive_empty, derive_short, derive_none, derive_valid, derive_invalid)

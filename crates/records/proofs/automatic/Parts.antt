@@ -8,7 +8,7 @@ use native.Mathlib.Numerals.{add-one}
 use lib.ListN.{length, get_or, drop, drop_of_length-le}
 use lib.Seq.{drop-cons}
 use lib.Dec.{leb, eqb}
-use borrow.Author.Tests.{eq-eqb, ne_eqb, le-leb, lt-leb, leb-true, eqb-true, not-true, not-false}
+use borrow.Author.Tests.{eq-eqb, ne_eqb, le-leb, lt-leb, leb-true, eqb-true, not-true}
 use Rattle.records.proofs.bytes.Laws.{same-eq}
 use Rattle.records.proofs.automatic.Characters.{digit-bounds, start-bounds}
 use Rattle.records.proofs.Logic.{and_left, and_right, or_cases}
@@ -104,9 +104,9 @@ module _ {s : List ℕ} {first : Bool} {i : ℕ} (h : PartsAt s first i) where
             let g : is_digit x ≡ false = sym ed ∙ not-true d en in
             sym (here ∙ step first ∙ rw (e, ef, g))
 
-        pub parts-digit : r ≡ false → first ≡ false → not d ≡ false → PartsAt s first (i + 1)
+        pub parts-digit : r ≡ false → first ≡ false → d ≡ true → PartsAt s first (i + 1)
         parts-digit e ef en =
-            let g : is_digit x ≡ true = sym ed ∙ not-false d en in
+            let g : is_digit x ≡ true = sym ed ∙ en in
             record { within = omega arith; left = here ∙ step first ∙ rw (add-one, e, ef, g) }
 
 pub ruleset parts_laws = (name-long, parts-start, parts-end, parts-empty, parts-dot, parts-begin, parts-bad-start, parts-bad, parts-digit)

@@ -14,14 +14,14 @@ use Rattle.records.specs.Descriptor.{Descriptor, descriptor_of}
 use Rattle.records.specs.Set.{blocks, modules}
 use Rattle.records.specs.Finder.{find_name, is_at, is_first, found_from, visible_blocks}
 use Rattle.records.specs.Places.{names_in, distinct}
-use Rattle.records.specs.declared.finder.Found.TheVariants.{At}
 use Rattle.records.proofs.Logic.{by, and_left, and_right, not_of_false, and_both}
 use Rattle.records.proofs.bytes.Laws.{same-eq, same_refl}
 use Rattle.records.proofs.finder.Modules.{is_at_lem, at-is}
 use Rattle.records.proofs.name.Lists.{differs}
+use Rattle.std.specs.Prelude.{Some}
 
 -- each name is found at its own position, where none stands twice
-pub found-own : (l : List (List ℕ)) (i k : ℕ) (d : List ℕ) → distinct l ≡ true → k < length l → find_name l (get_or l k d) i ≡ At (i + k)
+pub found-own : (l : List (List ℕ)) (i k : ℕ) (d : List ℕ) → distinct l ≡ true → k < length l → find_name l (get_or l k d) i ≡ Some (i + k)
 unfolding find_name distinct
 found-own [] i k d e h = absurd (omega arith)
 found-own (m ∷ l) i zero d e h = rw (same_refl m, add-zero i)
@@ -31,13 +31,13 @@ found-own (m ∷ l) i (suc k) d e h =
 
 pub first-own : (l : List (List ℕ)) (k : ℕ) (d : List ℕ) → distinct l ≡ true → k < length l → is_first l (get_or l k d) k ≡ true
 unfolding is_first
-first-own l k d e h = let z : 0 + k ≡ k = omega arith in at-is (find_name l (get_or l k d) 0) k (found-own l 0 k d e h ∙ ap At z)
+first-own l k d e h = let z : 0 + k ≡ k = omega arith in at-is (find_name l (get_or l k d) 0) k (found-own l 0 k d e h ∙ ap Some z)
 
 -- ---- of elements that have names, those that their names find
 
 module _ {A : Type 0} (f : A → List ℕ) (l : List (List ℕ)) where
   -- a name that is found before k is none of theirs, where the first of them has position k
-  found_before : (n : List ℕ) (i : ℕ) → find_name l n 0 ≡ At i → (k : ℕ) (xs : List A) → i < k → mem_name n (map f (found_from f l k xs)) ≡ false
+  found_before : (n : List ℕ) (i : ℕ) → find_name l n 0 ≡ Some i → (k : ℕ) (xs : List A) → i < k → mem_name n (map f (found_from f l k xs)) ≡ false
   unfolding found_from mem_name is_first
   found_before n i e k [] h = refl
   found_before n i e k (x ∷ xs) h = go (is_at (find_name l (f x) 0) k) refl (found_before n i e (suc k) xs (omega arith))
@@ -46,7 +46,7 @@ module _ {A : Type 0} (f : A → List ℕ) (l : List (List ℕ)) where
       unlike a =
           by (same_bytes (f x) n)
           (λ q.
-          let w : find_name l n 0 ≡ At k = rw (← same-eq (f x) n q) (is_at_lem (find_name l (f x) 0) k a) in
+          let w : find_name l n 0 ≡ Some k = rw (← same-eq (f x) n q) (is_at_lem (find_name l (f x) 0) k a) in
           let z : i ≡ k = cc in
           absurd (omega (arith, z, h)))
           (λ q. q)

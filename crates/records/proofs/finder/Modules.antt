@@ -12,12 +12,12 @@ use Rattle.records.specs.Name.{mem_name}
 use Rattle.records.specs.Descriptor.{Descriptor, descriptor_of}
 use Rattle.records.specs.Set.{name_at, blocks, modules}
 use Rattle.records.specs.Finder.{find_name, pick_found, find_module, is_at, is_first}
-use Rattle.records.specs.declared.finder.Found.{Found}
-use Rattle.records.specs.declared.finder.Found.TheVariants.{At, Nothing}
+use Rattle.records.specs.Finder.{Found}
 use Rattle.records.proofs.Logic.{clash}
 use Rattle.records.proofs.bytes.Laws.{same-eq}
 use Rattle.records.proofs.finder.Laws.{found-not}
 use Rattle.records.proofs.set.Blocks.{GoodSet}
+use Rattle.std.specs.Prelude.{Some, None}
 
 -- the position of a name that is found among names, the first of which has position i
 pub record FoundAt (l : List (List ℕ)) (n : List ℕ) (i j : ℕ) : Type 0 where
@@ -25,7 +25,7 @@ pub record FoundAt (l : List (List ℕ)) (n : List ℕ) (i j : ℕ) : Type 0 whe
   pub within : j < i + length l
   pub is : get_or l (j - i) [] ≡ n
 
-pub found_at : (l : List (List ℕ)) (n : List ℕ) (i j : ℕ) → find_name l n i ≡ At j → FoundAt l n i j
+pub found_at : (l : List (List ℕ)) (n : List ℕ) (i j : ℕ) → find_name l n i ≡ Some j → FoundAt l n i j
 unfolding find_name
 found_at [] n i j e = clash (cc)
 found_at (m ∷ l) n i j e = go (same_bytes m n) refl (found_at l n (suc i) j) e
@@ -35,7 +35,7 @@ found_at (m ∷ l) n i j e = go (same_bytes m n) refl (found_at l n (suc i) j) e
         let q : j - i ≡ suc (j - suc i) = omega (arith, f.from) in
         record { from = omega (arith, f.from); within = omega (arith, f.within); is = rw q f.is }
 
-    go : (b : Bool) → same_bytes m n ≡ b → (find_name l n (suc i) ≡ At j → FoundAt l n (suc i) j) → pick_found b (At i) (find_name l n (suc i)) ≡ At j → FoundAt (m ∷ l) n i j
+    go : (b : Bool) → same_bytes m n ≡ b → (find_name l n (suc i) ≡ Some j → FoundAt l n (suc i) j) → pick_found b (Some i) (find_name l n (suc i)) ≡ Some j → FoundAt (m ∷ l) n i j
     go true eb ih h =
         let q : i ≡ j = cc in
         let z : j - i ≡ 0 = omega arith in
@@ -43,12 +43,12 @@ found_at (m ∷ l) n i j e = go (same_bytes m n) refl (found_at l n (suc i) j) e
     go false eb ih h = later (ih h)
 
 -- a position that is found
-pub is_at_lem : (f : Found) (i : ℕ) → is_at f i ≡ true → f ≡ At i
+pub is_at_lem : (f : Found) (i : ℕ) → is_at f i ≡ true → f ≡ Some i
 unfolding is_at
-is_at_lem (At j) i e = ap At (sym (eqb-true i j e))
-is_at_lem Nothing i e = clash (cc)
+is_at_lem (Some j) i e = ap Some (sym (eqb-true i j e))
+is_at_lem None i e = clash (cc)
 
-pub at-is : (f : Found) (i : ℕ) → f ≡ At i → is_at f i ≡ true
+pub at-is : (f : Found) (i : ℕ) → f ≡ Some i → is_at f i ≡ true
 unfolding is_at
 at-is f i e = rw (e, eq-eqb i i refl)
 
@@ -65,7 +65,7 @@ module _ (s : List ℕ) (n : ℕ) (t : List ℕ) (g : GoodSet s n t) where
   counted = length-map (map descriptor_of (blocks s)) (λ (m : Descriptor). m.name) ∙ length-map (blocks s) descriptor_of ∙ sym g.count
 
   -- what is found is a module's position, and that module has the name
-  pub find-by-name : (name : List ℕ) (i : ℕ) → find_module s name ≡ At i → (i < n) × (get_or (map (λ (m : Descriptor). m.name) (modules s)) i [] ≡ name)
+  pub find-by-name : (name : List ℕ) (i : ℕ) → find_module s name ≡ Some i → (i < n) × (get_or (map (λ (m : Descriptor). m.name) (modules s)) i [] ≡ name)
   unfolding find_module
   find-by-name name i e =
       let f : FoundAt (map (λ (m : Descriptor). m.name) (modules s)) name 0 i = found_at (map (λ (m : Descriptor). m.name) (modules s)) name 0 i e in
@@ -74,11 +74,11 @@ module _ (s : List ℕ) (n : ℕ) (t : List ℕ) (g : GoodSet s n t) where
 
   -- each module that is not hidden is found by its own name
   pub find-by-position : (i : ℕ) → is_first (map (λ (m : Descriptor). m.name) (modules s)) (get_or (map (λ (m : Descriptor). m.name) (modules s)) i []) i ≡ true
-      → find_module s (get_or (map (λ (m : Descriptor). m.name) (modules s)) i []) ≡ At i
+      → find_module s (get_or (map (λ (m : Descriptor). m.name) (modules s)) i []) ≡ Some i
   unfolding find_module is_first
   find-by-position i e = is_at_lem (find_module s (get_or (map (λ (m : Descriptor). m.name) (modules s)) i [])) i e
 
   -- a name that is not found is no module's
-  pub find-nothing : (name : List ℕ) → find_module s name ≡ Nothing → mem_name name (map (λ (m : Descriptor). m.name) (modules s)) ≡ false
+  pub find-nothing : (name : List ℕ) → find_module s name ≡ None → mem_name name (map (λ (m : Descriptor). m.name) (modules s)) ≡ false
   unfolding find_module
   find-nothing name e = found-not (map (λ (m : Descriptor). m.name) (modules s)) name 0 e

@@ -14,11 +14,11 @@ use Rattle.records.specs.Request.{check_records}
 use Rattle.records.specs.Order.{ordered, packages_of, all_names, is_short, all_short}
 use Rattle.records.specs.declared.error.Input.TheVariants.{Packages}
 use Rattle.records.specs.declared.record.Kind.TheVariants.{Package}
-use Rattle.records.specs.declared.request.RecordsAnswer.TheVariants as Records
 use Rattle.records.proofs.order.Ordered.{ordered-all}
 use Rattle.records.proofs.record.Laws.{records-cons, records-none, records-ind, body-front}
 use Rattle.records.proofs.request.Laws.{all_bodies, good-bodies}
 use Rattle.records.proofs.Logic.{and_split}
+use Rattle.std.specs.Prelude.{Ok}
 
 -- printable, of 1 to 255 bytes
 unfoldable pub is_package_name : List ℕ → Bool
@@ -101,7 +101,7 @@ package_known : kind_in Packages (mark_for Package) ≡ Package
 unfolding kind_in package_kind mark_for
 package_known = refl
 
-pub good_packages : (s : List ℕ) → ((i : ℕ) → get_or s i 0 < 256) → check_records Packages s ≡ Records.Good → all_names is_package_name (ordered (packages_of s)) ≡ true
+pub good_packages : (s : List ℕ) → ((i : ℕ) → get_or s i 0 < 256) → check_records Packages s ≡ (Ok tt) → all_names is_package_name (ordered (packages_of s)) ≡ true
 unfolding packages_of
 good_packages s h e =
     ordered-all is_package_name (map name_of (bodies Package s))

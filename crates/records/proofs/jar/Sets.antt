@@ -17,14 +17,12 @@ use Rattle.records.specs.Request.{check_records}
 use Rattle.records.specs.Order.{ordered, packages_of, all_names}
 use Rattle.records.specs.Output.{record_bytes, name_bytes, module_record, base_record, group, no_targets, automatic_records, package_records}
 use Rattle.records.specs.Jar.{name_for, named_for, records_for, pick_written, fitted, then_name, then_packages, jar_answer}
-use Rattle.records.specs.declared.automatic.Named.{Named}
+use Rattle.records.specs.Automatic.{Named}
 use Rattle.records.specs.declared.error.Input.TheVariants.{Packages}
 use Rattle.records.specs.declared.error.ModuleError.TheVariants.{TooLarge, OutputTooShort, InvalidModuleName, InvalidAutomaticModuleName}
 use Rattle.records.specs.declared.record.Kind.{Kind}
 use Rattle.records.specs.declared.record.Kind.TheVariants.{Module, Requires, Exports, Opens, Package}
-use Rattle.records.specs.declared.request.RecordsAnswer.{RecordsAnswer}
-use Rattle.records.specs.declared.request.RecordsAnswer.TheVariants as Records
-use Rattle.records.specs.declared.jar.Written.TheVariants.{Bytes, Refused}
+use Rattle.records.specs.Request.{RecordsAnswer}
 use Rattle.records.proofs.Logic.{clash, and_split}
 use Rattle.records.proofs.automatic.Parts.{module_name-short, module_name-some, module_name-printable, module_name-not-unnamed}
 use Rattle.records.proofs.output.Made.{made-mark, made-body, made-whole, group_records, automatic-records}
@@ -33,6 +31,7 @@ use Rattle.records.proofs.record.Laws.{records-cons}
 use Rattle.records.proofs.set.Blocks.{good-set}
 use Rattle.records.proofs.set.Steps.{is_inner, inner-kind, belongs, step-goes, name-here}
 use Rattle.records.proofs.jar.PackageNames.{is_package_name, name-some, name-printable, names-short, good_packages}
+use Rattle.std.specs.Prelude.{Ok, Err}
 
 -- ---- a set of one module
 
@@ -158,32 +157,32 @@ module _ (n : List ℕ) (ps : List (List ℕ)) (v : is_module_name n ≡ true) (
 -- ---- what an answer that is no refusal shows
 
 record Answered (name packages : List ℕ) (n : ℕ) : Type 0 where
-  packages_good : check_records Packages packages ≡ Records.Good
+  packages_good : check_records Packages packages ≡ (Ok tt)
   named : is_module_name name ≡ true
   long : n ≡ length (records_for name packages)
 
-validated-name : (m : List ℕ) → validated m ≡ Named.Valid → is_module_name m ≡ true
+validated-name : (m : List ℕ) → validated m ≡ (Ok tt) → is_module_name m ≡ true
 unfolding validated
 validated-name m e = go (is_module_name m) e
   where
-    go : (t : Bool) → pick_named t Named.Valid (Named.Refused InvalidModuleName) ≡ Named.Valid → t ≡ true
+    go : (t : Bool) → pick_named t (Ok tt) (Err InvalidModuleName) ≡ (Ok tt) → t ≡ true
     go true h = refl
     go false h = clash (cc)
 
-derived-valid : (jar : List ℕ) → derived jar ≡ Named.Valid → validated (derived_name jar) ≡ Named.Valid
+derived-valid : (jar : List ℕ) → derived jar ≡ (Ok tt) → validated (derived_name jar) ≡ (Ok tt)
 unfolding derived
 derived-valid jar e = go (is_empty (without_jar (file_name jar)) || is_empty (derived_name jar)) e
   where
-    go : (t : Bool) → pick_named t (Named.Refused InvalidAutomaticModuleName) (validated (derived_name jar)) ≡ Named.Valid → validated (derived_name jar) ≡ Named.Valid
+    go : (t : Bool) → pick_named t (Err InvalidAutomaticModuleName) (validated (derived_name jar)) ≡ (Ok tt) → validated (derived_name jar) ≡ (Ok tt)
     go true h = clash (cc)
     go false h = h
 
-valid-name : (given : Bool) (jar manifest : List ℕ) → named_for given jar manifest ≡ Named.Valid → is_module_name (name_for given jar manifest) ≡ true
+valid-name : (given : Bool) (jar manifest : List ℕ) → named_for given jar manifest ≡ (Ok tt) → is_module_name (name_for given jar manifest) ≡ true
 unfolding named_for name_for
 valid-name true jar manifest e = validated-name manifest e
 valid-name false jar manifest e = validated-name (derived_name jar) (derived-valid jar e)
 
-answered : (jar : List ℕ) (given : Bool) (manifest packages : List ℕ) (room n : ℕ) → jar_answer jar given manifest packages room ≡ Bytes n → Answered (name_for given jar manifest) packages n
+answered : (jar : List ℕ) (given : Bool) (manifest packages : List ℕ) (room n : ℕ) → jar_answer jar given manifest packages room ≡ Ok n → Answered (name_for given jar manifest) packages n
 unfolding jar_answer then_packages then_name fitted
 answered jar given manifest packages room n e =
     go (ltb 255 (length jar)) (check_records Packages packages) refl (named_for given jar manifest) refl (ltb room (length s)) e
@@ -192,12 +191,12 @@ answered jar given manifest packages room n e =
     s = records_for (name_for given jar manifest) packages
 
     go : (t : Bool) (a : RecordsAnswer) → check_records Packages packages ≡ a → (m : Named) → named_for given jar manifest ≡ m → (u : Bool)
-        → pick_written t (Refused (TooLarge 0)) (then_packages a (then_name m (pick_written u (Refused (OutputTooShort (length s))) (Bytes (length s))))) ≡ Bytes n → Answered (name_for given jar manifest) packages n
+        → pick_written t (Err (TooLarge 0)) (then_packages a (then_name m (pick_written u (Err (OutputTooShort (length s))) (Ok (length s))))) ≡ Ok n → Answered (name_for given jar manifest) packages n
     go true a ea m em u h = clash (cc)
-    go false (Records.Refused x) ea m em u h = clash (cc)
-    go false Records.Good ea (Named.Refused x) em u h = clash (cc)
-    go false Records.Good ea Named.Valid em true h = clash (cc)
-    go false Records.Good ea Named.Valid em false h = record { packages_good = ea; named = valid-name given jar manifest em; long = cc }
+    go false (Err x) ea m em u h = clash (cc)
+    go false (Ok v) ea (Err x) em u h = clash (cc)
+    go false (Ok v) ea (Ok w) em true h = clash (cc)
+    go false (Ok v) ea (Ok w) em false h = record { packages_good = ea; named = valid-name given jar manifest em; long = cc }
 
 -- ---- the theorem
 
@@ -205,7 +204,7 @@ answered jar given manifest packages room n e =
 -- `bytes` says that the package records are a byte string
 pub jar_is_set : (jar : List ℕ) (given : Bool) (manifest packages : List ℕ) (room n : ℕ)
     → ((i : ℕ) → get_or packages i 0 < 256)
-    → jar_answer jar given manifest packages room ≡ Bytes n → n ≤ 65535
+    → jar_answer jar given manifest packages room ≡ Ok n → n ≤ 65535
     → OneModule (records_for (name_for given jar manifest) packages) (name_for given jar manifest)
 unfolding records_for
 jar_is_set jar given manifest packages room n bytes e l =

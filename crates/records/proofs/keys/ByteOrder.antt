@@ -10,9 +10,9 @@ use lib.Dec.{ltb}
 use borrow.Author.Tests.{lt-ltb, le-ltb, eq-eqb, ltb-true, ltb-false}
 use Rattle.records.specs.Bytes.{before_bytes}
 use Rattle.records.specs.Keys.{standing, pick_standing, key_to, Key, Keys, key_standing, Alike}
-use Rattle.records.specs.declared.keys.Standing.TheVariants.{Same, Before, After}
 use Rattle.records.proofs.Logic.{by, clash}
 use Rattle.records.proofs.bytes.Order.{before-one-way, before-differ}
+use Rattle.std.specs.declared.cmp.Ordering.TheVariants.{Less, Equal, Greater}
 
 -- the strings agree up to `at` and a has the smaller byte there; a byte past the end is 0
 record First (a b : List ℕ) : Type 0 where
@@ -85,54 +85,54 @@ module _ (a b : List ℕ) (ka kb : ℕ) (ha : Key a 0 ka) (hb : Key b 0 kb) wher
 
 -- ---- the keys tell how the names stand
 
-stands-before : (m n : List ℕ) → before_bytes m n ≡ true → standing m n ≡ Before
+stands-before : (m n : List ℕ) → before_bytes m n ≡ true → standing m n ≡ Less
 unfolding standing
 stands-before m n e = rw e
 
-stands_after : (m n : List ℕ) → before_bytes n m ≡ true → standing m n ≡ After
+stands_after : (m n : List ℕ) → before_bytes n m ≡ true → standing m n ≡ Greater
 unfolding standing
 stands_after m n e = rw (before-one-way n m e, before-differ n m e)
 
 -- the keys a, b stand before the keys k, j
-data Less (a b k j : ℕ) : Type 0 where
-  first : a < k → Less a b k j
-  next : a ≡ k → b < j → Less a b k j
+data KeysLess (a b k j : ℕ) : Type 0 where
+  first : a < k → KeysLess a b k j
+  next : a ≡ k → b < j → KeysLess a b k j
 
-less-before : (m n : List ℕ) (a b k j : ℕ) → Key m 0 a → Key m 8 b → Key n 0 k → Key n 8 j → Less a b k j → before_bytes m n ≡ true
+less-before : (m n : List ℕ) (a b k j : ℕ) → Key m 0 a → Key m 8 b → Key n 0 k → Key n 8 j → KeysLess a b k j → before_bytes m n ≡ true
 less-before m n a b k j ha hb hk hj (first l) = keys-first m n a k ha hk l
 less-before m n a b k j ha hb hk hj (next e l) = keys-next m n a k ha hk e b j hb hj l
 
 module _ (a b k j : ℕ) where
-  told-before : key_standing a b k j ≡ Before → Less a b k j
+  told-before : key_standing a b k j ≡ Less → KeysLess a b k j
   unfolding key_standing
   told-before e = go (ltb a k) refl (ltb k a) refl (ltb b j) refl (ltb j b) e
     where
       go : (p : Bool) → ltb a k ≡ p → (q : Bool) → ltb k a ≡ q → (t : Bool) → ltb b j ≡ t → (u : Bool)
-          → pick_standing p Before (pick_standing q After (pick_standing t Before (pick_standing u After Same))) ≡ Before → Less a b k j
+          → pick_standing p Less (pick_standing q Greater (pick_standing t Less (pick_standing u Greater Equal))) ≡ Less → KeysLess a b k j
       go true ep q eq t et u h = first (ltb-true a k ep)
       go false ep true eq t et u h = clash (cc)
       go false ep false eq true et u h = next (omega (arith, ltb-false a k ep, ltb-false k a eq)) (ltb-true b j et)
       go false ep false eq false et true h = clash (cc)
       go false ep false eq false et false h = clash (cc)
 
-  told-after : key_standing a b k j ≡ After → Less k j a b
+  told-after : key_standing a b k j ≡ Greater → KeysLess k j a b
   unfolding key_standing
   told-after e = go (ltb a k) refl (ltb k a) refl (ltb b j) refl (ltb j b) refl e
     where
       go : (p : Bool) → ltb a k ≡ p → (q : Bool) → ltb k a ≡ q → (t : Bool) → ltb b j ≡ t → (u : Bool) → ltb j b ≡ u
-          → pick_standing p Before (pick_standing q After (pick_standing t Before (pick_standing u After Same))) ≡ After → Less k j a b
+          → pick_standing p Less (pick_standing q Greater (pick_standing t Less (pick_standing u Greater Equal))) ≡ Greater → KeysLess k j a b
       go true ep q eq t et u eu h = clash (cc)
       go false ep true eq t et u eu h = first (ltb-true k a eq)
       go false ep false eq true et u eu h = clash (cc)
       go false ep false eq false et true eu h = next (omega (arith, ltb-false a k ep, ltb-false k a eq)) (ltb-true j b eu)
       go false ep false eq false et false eu h = clash (cc)
 
-  told_same : key_standing a b k j ≡ Same → (a ≡ k) × (b ≡ j)
+  told_same : key_standing a b k j ≡ Equal → (a ≡ k) × (b ≡ j)
   unfolding key_standing
   told_same e = go (ltb a k) refl (ltb k a) refl (ltb b j) refl (ltb j b) refl e
     where
       go : (p : Bool) → ltb a k ≡ p → (q : Bool) → ltb k a ≡ q → (t : Bool) → ltb b j ≡ t → (u : Bool) → ltb j b ≡ u
-          → pick_standing p Before (pick_standing q After (pick_standing t Before (pick_standing u After Same))) ≡ Same → (a ≡ k) × (b ≡ j)
+          → pick_standing p Less (pick_standing q Greater (pick_standing t Less (pick_standing u Greater Equal))) ≡ Equal → (a ≡ k) × (b ≡ j)
       go true ep q eq t et u eu h = clash (cc)
       go false ep true eq t et u eu h = clash (cc)
       go false ep false eq true et u eu h = clash (cc)
@@ -152,11 +152,11 @@ alike-keys m n a b k j ha hb hk hj e f = record {
 }
 
 module _ (m n : List ℕ) (a b l k j : ℕ) (h : Keys m a b l) (hk : Key n 0 k) (hj : Key n 8 j) where
-  pub keys-before : key_standing a b k j ≡ Before → standing m n ≡ Before
+  pub keys-before : key_standing a b k j ≡ Less → standing m n ≡ Less
   keys-before e = stands-before m n (less-before m n a b k j h.first h.next hk hj (told-before a b k j e))
 
-  pub keys-after : key_standing a b k j ≡ After → standing m n ≡ After
+  pub keys-after : key_standing a b k j ≡ Greater → standing m n ≡ Greater
   keys-after e = stands_after m n (less-before n m k j a b hk hj h.first h.next (told-after a b k j e))
 
-  pub keys-same : key_standing a b k j ≡ Same → Alike m n
+  pub keys-same : key_standing a b k j ≡ Equal → Alike m n
   keys-same e = alike-keys m n a b k j h.first h.next hk hj (told_same a b k j e).0 (told_same a b k j e).1

@@ -1,45 +1,49 @@
 -- What the functions over names and their keys show.
-use Prim.Native.Nat.{ℕ, zero, suc, ◌+◌, ◌-◌, ◌*◌, ◌%◌, ◌^◌, ◌≤◌, ◌<◌}
+use Prim.Native.Nat.{ℕ, zero, suc, ◌+◌, ◌-◌, ◌*◌, ◌/◌, ◌%◌, ◌^◌, ◌≤◌, ◌<◌}
 use mathlib.Core.Path.{◌≡◌, refl, sym, ◌∙◌, ap}
 use mathlib.Core.List.{List, [], ◌∷◌}
 use mathlib.Core.Bool.{Bool, true, false}
 use native.Mathlib.Omega.{arith}
-use native.Mathlib.Nat.{mod-eq_of_lt, mul_assoc, mul-one, add-zero, pow-suc, mul-add-mod_self_right}
+use native.Mathlib.Nat.{mod-lt, mul-lt-mul_of_pos_right, add-mul, mod-eq_of_lt, mul_assoc, mul-one, add-zero, pow-suc, mul-add-mod_self_right}
 use lib.ListN.{length, get_or, drop, drop_of_length-le}
 use lib.Seq.{get_or-drop, drop-drop}
-use lib.Dec.{ltb}
-use borrow.Author.Tests.{lt-ltb, le-ltb, ltb-true, ltb-false}
+use lib.Dec.{ltb, lit<}
+use mir.Syntax.{w64}
+use Rattle.std.specs.Int.{from_be_bytes}
+use Rattle.std.proofs.lemmas.Nat.{div-add-mod', mod-mul-add}
+use borrow.Author.Tests.{lt-ltb, le-ltb, ltb-true, ltb-false, eq-eqb, ne_eqb}
 use Rattle.records.specs.Bytes.{same_bytes, before_bytes}
 use Rattle.records.specs.Set.{name_at}
-use Rattle.records.specs.Keys.{standing, key_to, Key, Half, ending_of, key_standing, Alike}
-use Rattle.records.specs.declared.keys.Standing.{Standing}
-use Rattle.records.specs.declared.keys.Standing.TheVariants.{Same, Before, After}
+use Rattle.records.specs.Keys.{standing, key_to, Key, ending_of, key_standing, Alike}
+use Rattle.std.specs.declared.cmp.Ordering.{Ordering}
 use Rattle.records.proofs.Logic.{by}
 use Rattle.records.proofs.bytes.Laws.{byte-none, same_refl}
 use Rattle.records.proofs.bytes.Order.{before_irrefl, same-not-before}
+use Rattle.std.specs.declared.cmp.Ordering.TheVariants.{Less, Equal, Greater}
+use Rattle.std.specs.Ordering.{nat_cmp, ordering_then}
 
 -- ---- the comparison
 
 module _ (a b : List ℕ) (q : Bool) (eq : q ≡ same_bytes a b) where
-  pub compare_same : q ≡ true → Same ≡ standing a b
+  pub compare_same : q ≡ true → Equal ≡ standing a b
   unfolding standing
   compare_same e = rw (same-not-before a b (sym eq ∙ e), ← eq, e)
 
   module _ (f : q ≡ false) (r : Bool) (er : r ≡ before_bytes a b) where
-    pub compare-before : r ≡ true → Before ≡ standing a b
+    pub compare-before : r ≡ true → Less ≡ standing a b
     unfolding standing
     compare-before e = rw (← er, e)
 
-    pub compare-after : r ≡ false → After ≡ standing a b
+    pub compare-after : r ≡ false → Greater ≡ standing a b
     unfolding standing
     compare-after e = rw (← er, e, ← eq, f)
 
-pub ruleset compare-laws = (compare_same, compare-before, compare-after)
+pub ruleset compare_laws = (compare_same, compare-before, compare-after)
 
 -- ---- a key is made
 
-module _ (s : List ℕ) (at b₀ b₁ b₂ b₃ : ℕ) (e₀ : b₀ ≡ get_or s at 0) (e₁ : b₁ ≡ get_or s (at + 1) 0) (e₂ : b₂ ≡ get_or s (at + 2) 0) (e₃ : b₃ ≡ get_or s (at + 3) 0)
-    (h₀ : b₀ < 256) (h₁ : b₁ < 256) (h₂ : b₂ < 256) (h₃ : b₃ < 256) where
+module _ (s : List ℕ) (at b₀ b₁ b₂ b₃ b₄ b₅ b₆ b₇ : ℕ)
+    (e₀ : b₀ ≡ get_or s at 0) (e₁ : b₁ ≡ get_or s (at + 1) 0) (e₂ : b₂ ≡ get_or s (at + 2) 0) (e₃ : b₃ ≡ get_or s (at + 3) 0) (e₄ : b₄ ≡ get_or s (at + 4) 0) (e₅ : b₅ ≡ get_or s (at + 5) 0) (e₆ : b₆ ≡ get_or s (at + 6) 0) (e₇ : b₇ ≡ get_or s (at + 7) 0) where
   d₀ : get_or (drop at s) 0 0 ≡ b₀
   d₀ = let z : at + 0 ≡ at = omega arith in get_or-drop at s 0 0 ∙ rw z (sym e₀)
 
@@ -52,39 +56,21 @@ module _ (s : List ℕ) (at b₀ b₁ b₂ b₃ : ℕ) (e₀ : b₀ ≡ get_or s
   d₃ : get_or (drop at s) 3 0 ≡ b₃
   d₃ = get_or-drop at s 3 0 ∙ sym e₃
 
-  pub half-fits : b₀ * 16777216 + b₁ * 65536 + b₂ * 256 + b₃ < 4294967296
-  half-fits = omega arith
+  d₄ : get_or (drop at s) 4 0 ≡ b₄
+  d₄ = get_or-drop at s 4 0 ∙ sym e₄
 
-  small_at : (i : ℕ) → i < 4 → get_or (drop at s) i 0 < 256
-  small_at zero l = rw d₀ h₀
-  small_at (suc zero) l = rw d₁ h₁
-  small_at (suc (suc zero)) l = rw d₂ h₂
-  small_at (suc (suc (suc zero))) l = rw d₃ h₃
-  small_at (suc (suc (suc (suc i)))) l = absurd (omega arith)
+  d₅ : get_or (drop at s) 5 0 ≡ b₅
+  d₅ = get_or-drop at s 5 0 ∙ sym e₅
 
-  pub half_is : Half s at (b₀ * 16777216 + b₁ * 65536 + b₂ * 256 + b₃)
+  d₆ : get_or (drop at s) 6 0 ≡ b₆
+  d₆ = get_or-drop at s 6 0 ∙ sym e₆
+
+  d₇ : get_or (drop at s) 7 0 ≡ b₇
+  d₇ = get_or-drop at s 7 0 ∙ sym e₇
+
+  pub key_read : (r : ℕ) → ((i : ℕ) → get_or s i 0 < 256) → r ≡ from_be_bytes w64 (b₀ ∷ b₁ ∷ b₂ ∷ b₃ ∷ b₄ ∷ b₅ ∷ b₆ ∷ b₇ ∷ []) → Key s at r
   unfolding key_to
-  half_is = record { is = rw (d₀, d₁, d₂, d₃) (omega arith); small = small_at; fits = half-fits }
-
-pub ruleset half-laws = (half-fits, half_is)
-
-module _ (s : List ℕ) (at x y : ℕ) (hx : Half s at x) (hy : Half s (at + 4) y) where
-  next-at : (i : ℕ) → get_or (drop (at + 4) s) i 0 ≡ get_or (drop at s) (4 + i) 0
-  next-at i = let z : at + 4 + i ≡ at + (4 + i) = omega arith in get_or-drop (at + 4) s i 0 ∙ rw z (sym (get_or-drop at s (4 + i) 0))
-
-  key-small : (i : ℕ) → i < 8 → get_or (drop at s) i 0 < 256
-  key-small i l = by (ltb i 4)
-      (λ t. hx.small i (ltb-true i 4 t))
-      (λ t. let z : 4 + (i - 4) ≡ i = omega (arith, ltb-false i 4 t) in
-      let w : get_or (drop (at + 4) s) (i - 4) 0 < 256 = hy.small (i - 4) (omega (arith, ltb-false i 4 t, l)) in
-      rw (next-at (i - 4), z) at w)
-
-  joined : x * 4294967296 + y ≡ key_to 8 (drop at s)
-  unfolding key_to
-  joined = omega (arith, hx.is, hy.is, next-at 0, next-at 1, next-at 2, next-at 3)
-
-  pub key-is : Key s at (x * 4294967296 + y)
-  key-is = record { is = joined; small = key-small }
+  key_read r small e = record { is = e ∙ rw (d₀, d₁, d₂, d₃, d₄, d₅, d₆, d₇) (omega arith); small = λ i l. rw (get_or-drop at s i 0) (small (at + i)) }
 
 -- ---- the next key of a name of 9 to 15 bytes
 
@@ -149,54 +135,66 @@ module _ (s : List ℕ) (n w : ℕ) (l : 8 < n) (h : n < 16) (e : length s ≡ n
       = ap (λ (x : ℕ). key_to x (drop 8 s)) (sym z) ∙ key_split (n - 8) (16 - n) (drop 8 s) in
       rw rest-number (sym (q ∙ rw rest-none (add-zero (key_to (n - 8) (drop 8 s) * 256 ^ (16 - n)))))
 
-pub next-some : (s : List ℕ) (w r : ℕ) → 8 < length s → length s < 16 → Key s (length s - 8) w → r ≡ ending_of w (length s) → Key s 8 r
+next-some : (s : List ℕ) (w r : ℕ) → 8 < length s → length s < 16 → Key s (length s - 8) w → r ≡ ending_of w (length s) → Key s 8 r
 next-some s w r l h k e =
     record { is = e ∙ ending-number s (length s) w l h refl k; small = ending-small s (length s) w l h refl k }
 
-pub ruleset next-laws = (next-none, next-some)
+-- a factor of both sides of a remainder
+mod-scale : (w b c : ℕ) → 0 < b → 0 < c → w * c % (b * c) ≡ w % b * c
+mod-scale w b c hb hc =
+    let e : w * c ≡ w / b * (b * c) + w % b * c =
+    ap (λ (x : ℕ). x * c) (sym (div-add-mod' w b)) ∙ (add-mul (w / b * b) (w % b) c ∙ ap (λ (x : ℕ). x + w % b * c) (mul_assoc (w / b) b c)) in
+    ap (λ (x : ℕ). x % (b * c)) e ∙ mod-mul-add (w / b) (b * c) (w % b * c) (mul-lt-mul_of_pos_right (mod-lt w hb) hc)
 
-past : (k n : ℕ) → k ≤ n → (n ≡ k → ⊥) → k + 1 ≤ n
-past k n l d = omega arith
-
-less-not : (n k : ℕ) → n < k → k ≤ n → ⊥
-less-not n k l m = omega arith
-
-pub ending_at : (k w n : ℕ) → n ≡ k → w % 256 ^ (k - 8) * 256 ^ (16 - k) ≡ ending_of w n
+-- what a shift leaves of the last eight bytes
+shifted_by : (w m : ℕ) → m < 7 → w * 2 ^ (8 * (16 - (9 + m))) % 2 ^ 64 ≡ ending_of w (9 + m)
 unfolding ending_of
-ending_at k w n e = rw e
+shifted_by w zero l = mod-scale w (256 ^ 1) (256 ^ 7) (lit< tt) (lit< tt)
+shifted_by w (suc zero) l = mod-scale w (256 ^ 2) (256 ^ 6) (lit< tt) (lit< tt)
+shifted_by w (suc (suc zero)) l = mod-scale w (256 ^ 3) (256 ^ 5) (lit< tt) (lit< tt)
+shifted_by w (suc (suc (suc zero))) l = mod-scale w (256 ^ 4) (256 ^ 4) (lit< tt) (lit< tt)
+shifted_by w (suc (suc (suc (suc zero)))) l = mod-scale w (256 ^ 5) (256 ^ 3) (lit< tt) (lit< tt)
+shifted_by w (suc (suc (suc (suc (suc zero))))) l = mod-scale w (256 ^ 6) (256 ^ 2) (lit< tt) (lit< tt)
+shifted_by w (suc (suc (suc (suc (suc (suc zero)))))) l = mod-scale w (256 ^ 7) (256 ^ 1) (lit< tt) (lit< tt)
+shifted_by w (suc (suc (suc (suc (suc (suc (suc m))))))) l = absurd (omega arith)
 
-pub ending-none : (w n : ℕ) → 8 < n → n < 16 → (n ≡ 9 → ⊥) → (n ≡ 10 → ⊥) → (n ≡ 11 → ⊥) → (n ≡ 12 → ⊥) → (n ≡ 13 → ⊥) → (n ≡ 14 → ⊥) → (n ≡ 15 → ⊥)
-    → 0 ≡ ending_of w n
-ending-none w n l h d₉ d₁₀ d₁₁ d₁₂ d₁₃ d₁₄ d₁₅ =
-    absurd (less-not n 16 h (past 15 n (past 14 n (past 13 n (past 12 n (past 11 n (past 10 n (past 9 n l d₉) d₁₀) d₁₁) d₁₂) d₁₃) d₁₄) d₁₅))
+pub next-shifted : (s : List ℕ) (w : ℕ) → 8 < length s → length s < 16 → Key s (length s - 8) w → Key s 8 (w * 2 ^ (8 * (16 - length s)) % 2 ^ 64)
+next-shifted s w l h k =
+    let e : 9 + (length s - 9) ≡ length s = omega arith in
+    next-some s w (w * 2 ^ (8 * (16 - length s)) % 2 ^ 64) l h k (rw e at (shifted_by w (length s - 9) (omega arith)))
+
+pub ruleset next_laws = (next-none, next-shifted)
 
 -- ---- the comparison by keys
 
-module _ (a b k j : ℕ) where
-  pub by_before : a < k → Before ≡ key_standing a b k j
-  unfolding key_standing
-  by_before l = rw (lt-ltb a k l)
+-- the order of two numbers, by three cases
+module _ (a k : ℕ) (P : Type 0) (less : a < k → P) (equal : a ≡ k → P) (greater : k < a → P) where
+  three : P
+  three = by (ltb a k) (λ e. less (ltb-true a k e)) (λ e. by (ltb k a) (λ f. greater (ltb-true k a f)) (λ f. equal (let l : k ≤ a = ltb-false a k e in let m : a ≤ k = ltb-false k a f in omega arith)))
 
-  module _ (la : k ≤ a) where
-    pub by_after : k < a → After ≡ key_standing a b k j
-    unfolding key_standing
-    by_after l = rw (le-ltb a k la, lt-ltb k a l)
+cmp-less : (a k : ℕ) → a < k → nat_cmp a k ≡ Less
+cmp-less a k l = rw (lt-ltb a k l)
 
-    module _ (lk : a ≤ k) where
-      pub by-next-before : b < j → Before ≡ key_standing a b k j
-      unfolding key_standing
-      by-next-before l = rw (le-ltb a k la, le-ltb k a lk, lt-ltb b j l)
+cmp-equal : (a k : ℕ) → a ≡ k → nat_cmp a k ≡ Equal
+cmp-equal a k e = rw (le-ltb a k (omega arith), eq-eqb a k e)
 
-      module _ (lb : j ≤ b) where
-        pub by-next-after : j < b → After ≡ key_standing a b k j
-        unfolding key_standing
-        by-next-after l = rw (le-ltb a k la, le-ltb k a lk, le-ltb b j lb, lt-ltb j b l)
+cmp-greater : (a k : ℕ) → k < a → nat_cmp a k ≡ Greater
+cmp-greater a k l = rw (le-ltb a k (omega arith), ne_eqb a k (λ e. omega arith))
 
-        pub by-same : b ≤ j → Same ≡ key_standing a b k j
-        unfolding key_standing
-        by-same l = rw (le-ltb a k la, le-ltb k a lk, le-ltb b j lb, le-ltb j b l)
+-- the first keys decide, and where they are equal the next ones
+pub keys-then : (a b k j : ℕ) (r s : Ordering) → r ≡ nat_cmp a k → s ≡ nat_cmp b j → ordering_then r s ≡ key_standing a b k j
+unfolding key_standing
+keys-then a b k j r s er es =
+    three a k _
+    (λ l. rw (er, cmp-less a k l, lt-ltb a k l))
+    (λ e. let m : k ≤ a = omega arith in let n : a ≤ k = omega arith in
+    three b j _
+    (λ l. rw (er, es, cmp-equal a k e, le-ltb a k m, le-ltb k a n, cmp-less b j l, lt-ltb b j l))
+    (λ f. let o : j ≤ b = omega arith in let p : b ≤ j = omega arith in rw (er, es, cmp-equal a k e, le-ltb a k m, le-ltb k a n, cmp-equal b j f, le-ltb b j o, le-ltb j b p))
+    (λ l. let o : j ≤ b = omega arith in rw (er, es, cmp-equal a k e, le-ltb a k m, le-ltb k a n, cmp-greater b j l, le-ltb b j o, lt-ltb j b l)))
+    (λ l. let m : k ≤ a = omega arith in rw (er, cmp-greater a k l, le-ltb a k m, lt-ltb k a l))
 
-pub ruleset by-laws = (by_before, by_after, by-next-before, by-next-after, by-same)
+pub ruleset by_laws = (keys-then)
 
 -- ---- names whose first 16 bytes are the same
 
@@ -211,14 +209,14 @@ equal-lists (suc n) (x ∷ xs) (y ∷ ys) l e h =
     rw (p, q)
 
 module _ (s : List ℕ) (at : ℕ) (name : List ℕ) where
-  pub settle-same : (l : ℕ) → Alike (name_at s at) name → l ≡ length (name_at s at) → length name ≤ 16 → l ≡ length name → Same ≡ standing (name_at s at) name
+  pub settle-same : (l : ℕ) → Alike (name_at s at) name → l ≡ length (name_at s at) → length name ≤ 16 → l ≡ length name → Equal ≡ standing (name_at s at) name
   unfolding standing
   settle-same l h e k f =
       let g : length (name_at s at) ≡ length name = sym e ∙ f in
       let q : name_at s at ≡ name = equal-lists 16 (name_at s at) name (omega arith) g h.same in
       rw (q, before_irrefl name, same_refl name)
 
-  pub settle-told : (m : List ℕ) (r : Standing) → m ≡ name_at s at → r ≡ standing m name → r ≡ standing (name_at s at) name
+  pub settle-told : (m : List ℕ) (r : Ordering) → m ≡ name_at s at → r ≡ standing m name → r ≡ standing (name_at s at) name
   settle-told m r e f = f ∙ rw e
 
-pub ruleset settle-laws = (settle-same, settle-told)
+pub ruleset settle_laws = (settle-same, settle-told)

@@ -1,24 +1,22 @@
 -- What each turn of the search, of the shift and of the insertion shows.
-use Prim.Native.Nat.{ℕ, zero, suc, ◌+◌, ◌-◌, ◌/◌, ◌%◌, ◌≤◌, ◌<◌}
+use Prim.Native.Nat.{ℕ, zero, suc, ◌+◌, ◌-◌, ◌≤◌, ◌<◌}
 use mathlib.Core.Path.{◌≡◌, refl, sym, ◌∙◌, ap}
 use mathlib.Core.List.{List, [], ◌∷◌, ◌++◌, map, map-append, append_assoc}
 use mathlib.Core.Bool.{Bool, true, false, ◌&&◌}
 use native.Mathlib.Omega.{arith}
-use native.Mathlib.Numerals.{add-one, sub-one}
-use lib.ListN.{length, get_or, take, drop, set, length-map, length-set, length-append, length-drop, take-append-drop, get_or-map, get_or-append}
-use lib.Seq.{get_or-take, length-take-le, take-suc, drop-cons, set_at, take_at, drop_at, take-take, take-nil}
+use native.Mathlib.Numerals.{add-one}
+use lib.ListN.{length, get_or, take, drop, set, length-map, length-set, length-append, length-drop, get_or-map}
+use lib.Seq.{get_or-take, length-take-le, take-suc, set_at, take_at, drop_at, take-take, take-nil}
 use lib.Dec.{ltb}
-use borrow.Author.Tests.{lt-ltb, le-ltb, ltb-true, ltb-false}
+use borrow.Author.Tests.{lt-ltb, ltb-true, ltb-false}
 use Rattle.records.specs.Bytes.{same_bytes, before_bytes}
 use Rattle.records.specs.Name.{mem_name}
 use Rattle.records.specs.Order.{insert_name, is_ordered, name_in, Placed, stands_at, shifted, Inserted}
+use Rattle.std.specs.List.{copy_within}
+use Rattle.std.specs.List.Sorted.{IsPartitionedBy, IsPartitionPoint}
 use Rattle.records.proofs.Logic.{clash}
 use Rattle.records.proofs.bytes.Order.{before-trans}
 use Rattle.records.proofs.order.Ordered.{ordered-below, insert-ordered, insert-last, insert-there, insert-new, mem-there, mem-none}
-
-pub name-is : (s r : List ℕ) (entry : ℕ) → r ≡ take (entry % 65536) (drop (entry / 65536) s) → r ≡ name_in s entry
-unfolding name_in
-name-is s r entry e = e
 
 -- ---- the names of the first entries
 
@@ -29,108 +27,68 @@ module _ (s table : List ℕ) (count : ℕ) where
   names-long : count ≤ length table → length (map (name_in s) (take count table)) ≡ count
   names-long h = length-map (take count table) (name_in s) ∙ length-take-le count table h
 
-  names-below : count ≤ length table → is_ordered (map (name_in s) (take count table)) ≡ true → (i j : ℕ) → i < j → j < count
-      → before_bytes (name_in s (get_or table i 0)) (name_in s (get_or table j 0)) ≡ true
-  names-below h o i j l k =
-      rw (← name-at i (omega arith), ← name-at j k)
-      (ordered-below (map (name_in s) (take count table)) (name_in s 0) i j o l (rw (names-long h) k))
-
-  -- where one stands before the name, those in front of it do too
-  names-ahead : count ≤ length table → is_ordered (map (name_in s) (take count table)) ≡ true → (name : List ℕ) (i j : ℕ) → i ≤ j → j < count
-      → before_bytes (name_in s (get_or table j 0)) name ≡ true → before_bytes (name_in s (get_or table i 0)) name ≡ true
-  names-ahead h o name i j k c b = both (ltb i j) refl
-    where
-      both : (u : Bool) → ltb i j ≡ u → before_bytes (name_in s (get_or table i 0)) name ≡ true
-      both true eu =
-          before-trans (name_in s (get_or table i 0)) (name_in s (get_or table j 0)) name (names-below h o i j (ltb-true i j eu) c) b
-      both false eu = let q : j ≡ i = omega (arith, ltb-false i j eu) in rw q at b
-
 -- ---- the binary search
 
--- the names below low stand before the name, and the one at high does not
-pub record PlaceAt (s table : List ℕ) (count : ℕ) (name : List ℕ) (low high : ℕ) : Type 0 where
-  pub order : low ≤ high
-  pub within : high ≤ count
-  pub room : count ≤ length table
-  pub sorted : is_ordered (map (name_in s) (take count table)) ≡ true
-  pub below : (i : ℕ) → i < low → before_bytes (name_in s (get_or table i 0)) name ≡ true
-  pub above : high < count → before_bytes (name_in s (get_or table high 0)) name ≡ false
+module _ (s table name : List ℕ) (o : is_ordered (map (name_in s) table) ≡ true) where
+  -- where one stands before the name, those in front of it do too
+  names-ahead : (i j d : ℕ) → i ≤ j → j < length table → before_bytes (name_in s (get_or table j d)) name ≡ true → before_bytes (name_in s (get_or table i d)) name ≡ true
+  names-ahead i j d k c b = both (ltb i j) refl
+    where
+      at : (n : ℕ) → get_or (map (name_in s) table) n (name_in s d) ≡ name_in s (get_or table n d)
+      at n = get_or-map (name_in s) table n d
 
-pub place-start : (s table : List ℕ) (count : ℕ) (name : List ℕ) → count ≤ length table → is_ordered (map (name_in s) (take count table)) ≡ true
-    → PlaceAt s table count name 0 count
-place-start s table count name h o = record {
-  order = omega arith;
-  within = omega arith;
-  room = h;
-  sorted = o;
-  below = λ i l. absurd (omega arith);
-  above = λ l. absurd (omega arith);
-}
+      both : (u : Bool) → ltb i j ≡ u → before_bytes (name_in s (get_or table i d)) name ≡ true
+      both true eu =
+          let l : i < j = ltb-true i j eu in
+          let h : before_bytes (name_in s (get_or table i d)) (name_in s (get_or table j d)) ≡ true =
+          rw (← at i, ← at j) (ordered-below (map (name_in s) table) (name_in s d) i j o l (rw (length-map table (name_in s)) c)) in
+          before-trans (name_in s (get_or table i d)) (name_in s (get_or table j d)) name h b
+      both false eu = let q : j ≡ i = omega (arith, ltb-false i j eu) in rw q at b
 
-module _ (s table : List ℕ) (count : ℕ) (name : List ℕ) (low high : ℕ) (h : PlaceAt s table count name low high) where
-  pub place-index : low < high → low + (high - low) / 2 < length table
-  place-index l = omega (arith, h.within, h.room)
+  pub place_partitioned : IsPartitionedBy (λ (e : ℕ). before_bytes (name_in s e) name) table
+  place_partitioned i j d l k b = names-ahead i j d l k b
 
-  module _ (l : low < high) (m : List ℕ) (r : Bool) (em : m ≡ name_in s (get_or table (low + (high - low) / 2) 0)) (er : r ≡ before_bytes m name) where
-    here : before_bytes (name_in s (get_or table (low + (high - low) / 2) 0)) name ≡ r
-    here = cc
-
-    pub place_up : r ≡ true → PlaceAt s table count name (low + (high - low) / 2 + 1) high
-    place_up e = record {
-      order = omega arith;
-      within = h.within;
-      room = h.room;
-      sorted = h.sorted;
-      below = λ i k. names-ahead s table count h.room h.sorted name i (low + (high - low) / 2) (omega arith) (omega (arith, h.within)) (here ∙ e);
-      above = h.above;
-    }
-
-    pub place_down : r ≡ false → PlaceAt s table count name low (low + (high - low) / 2)
-    place_down e = record {
-      order = omega arith;
-      within = omega (arith, h.within);
-      room = h.room;
-      sorted = h.sorted;
-      below = h.below;
-      above = λ k. here ∙ e;
-    }
-
-  pub place-done : high ≤ low → Placed s table count name low
-  place-done l =
-      let e : high ≡ low = omega (arith, h.order) in
-      record { within = omega (arith, h.within); below = h.below; above = λ k. rw e at (h.above (omega arith)) }
-
-pub ruleset place-laws = (place-start, place-index, place_up, place_down, place-done)
+  pub place_found : (r : ℕ) → r ≤ length table → IsPartitionPoint (λ (e : ℕ). before_bytes (name_in s e) name ≡ true) (λ (e : ℕ). before_bytes (name_in s e) name ≡ false) table r
+      → Placed s table (length table) name r
+  place_found r l p = record {
+    within = l;
+    below = λ i k. p.0 i 0 (omega arith) k;
+    above = λ k. p.1 r 0 (omega arith) k;
+  }
 
 -- ---- the test of the last
 
-module _ (s table : List ℕ) (count : ℕ) (h : count ≤ length table) (l : 0 < count) where
-  pub place-back : count - 1 < length table
-  place-back = omega arith
+-- the last stands before the name
+pub place-last : (s table name m : List ℕ) (r : Bool) → is_ordered (map (name_in s) table) ≡ true → 0 < length table → m ≡ name_in s (get_or table (length table - 1) 0)
+    → r ≡ before_bytes m name → r ≡ true → Placed s table (length table) name (length table)
+place-last s table name m r o l em er e = record {
+  within = omega arith;
+  below = λ i k. names-ahead s table name o i (length table - 1) 0 (omega arith) (omega arith) (cc);
+  above = λ k. absurd (omega arith);
+}
 
-  -- the last stands before the name
-  pub place-last : (name m : List ℕ) (r : Bool) → is_ordered (map (name_in s) (take count table)) ≡ true → m ≡ name_in s (get_or table (count - 1) 0)
-      → r ≡ before_bytes m name → r ≡ true → Placed s table count name count
-  place-last name m r o em er e = record {
-    within = omega arith;
-    below = λ i k. names-ahead s table count h o name i (count - 1) (omega arith) (omega arith) (cc);
-    above = λ k. absurd (omega arith);
-  }
-
-pub ruleset last-laws = (place-back, place-last)
+-- a place in the first entries is one in the table
+pub placed_front : (s t name : List ℕ) (count r : ℕ) → count ≤ length t → Placed s (take count t) (length (take count t)) name r → Placed s t count name r
+placed_front s t name count r h p = record {
+  within = omega (arith, long, p.within);
+  below = λ i k. rw (get_or-take count t i 0 (omega (arith, long, p.within))) at (p.below i k);
+  above = λ k. rw (get_or-take count t r 0 k) at (p.above (omega (arith, long)));
+}
+  where
+    long : length (take count t) ≡ count
+    long = length-take-le count t h
 
 -- ---- whether the name stands there
 
 module _ (s table : List ℕ) (count at : ℕ) (name : List ℕ) where
-  pub stands-is : (m : List ℕ) (r : Bool) → at < count → m ≡ name_in s (get_or table at 0) → r ≡ same_bytes name m → r ≡ stands_at s table count at name
+  -- among the first entries as in the table
+  pub stands_front : count ≤ length table → stands_at s (take count table) (length (take count table)) at name ≡ stands_at s table count at name
   unfolding stands_at
-  stands-is m r l em er = rw (lt-ltb at count l, er, em)
-
-  pub stands-not : count ≤ at → false ≡ stands_at s table count at name
-  unfolding stands_at
-  stands-not l = rw (le-ltb at count l)
-
-pub ruleset stands-laws = (stands-is, stands-not)
+  stands_front h = rw (length-take-le count table h) (go (ltb at count) refl)
+    where
+      go : (b : Bool) → ltb at count ≡ b → (b && same_bytes name (name_in s (get_or (take count table) at 0))) ≡ (b && same_bytes name (name_in s (get_or table at 0)))
+      go true e = rw (get_or-take count table at 0 (ltb-true at count e))
+      go false e = refl
 
 -- ---- the shift
 
@@ -141,62 +99,12 @@ length-shifted t from count l h =
     let b : length (take (count - from) (drop from t)) ≡ count - from = length-take-le (count - from) (drop from t) (rw length-drop (omega arith)) in
     rw (length-append, length-append, a, b, length-drop) (omega arith)
 
--- one element more is moved up
-shifted-more : (t : List ℕ) (k count : ℕ) → suc k ≤ count → count < length t
-    → set (shifted t (suc k) count) (suc k) (get_or (shifted t (suc k) count) k 0) ≡ shifted t k count
+-- a copy one place up
+pub shift_copied : (t : List ℕ) (from count : ℕ) → from ≤ count → copy_within t from count (from + 1) ≡ shifted t from count
 unfolding shifted
-shifted-more t k count l h =
-    let p : List ℕ = take (suc k) t in
-    let q : List ℕ = take (count - suc k) (drop (suc k) t) ++ drop (count + 1) t in
-    let lp : length p ≡ suc k = length-take-le (suc k) t (omega arith) in
-    let lp₂ : length (take (suc (suc k)) t) ≡ suc (suc k) = length-take-le (suc (suc k)) t (omega arith) in
-    let v : get_or (take (suc (suc k)) t ++ q) k 0 ≡ get_or t k 0 =
-    get_or-append (take (suc (suc k)) t) q 0 k (omega arith) ∙ get_or-take (suc (suc k)) t k 0 (omega arith) in
-    let x : take (suc (suc k)) t ++ q ≡ p ++ (get_or t (suc k) 0 ∷ q) =
-    rw (take-suc t (suc k) 0 (omega arith), append_assoc p (get_or t (suc k) 0 ∷ []) q) in
-    let n : count - k ≡ suc (count - suc k) = omega arith in
-    let m : suc k + 1 ≡ suc (suc k) = omega arith in
-    let o : k + 1 ≡ suc k = omega arith in
-    rw (m, v, x, set_at p (get_or t (suc k) 0) q (get_or t k 0) (suc k) lp, o, n, drop-cons t k 0 (omega arith))
-
--- the elements from j on are moved up
-pub record ShiftAt (t : List ℕ) (from count : ℕ) (out : List ℕ) (j : ℕ) : Type 0 where
-  pub low : from ≤ j
-  pub high : j ≤ count
-  pub room : count < length t
-  pub long : length out ≡ length t
-  pub done : out ≡ shifted t j count
-
-pub shift-start : (t : List ℕ) (from count : ℕ) → from ≤ count → count < length t → ShiftAt t from count t count
-unfolding shifted
-shift-start t from count l h =
-    let z : count - count ≡ 0 = omega arith in
-    record { low = l; high = omega arith; room = h; long = refl; done = rw z (sym (take-append-drop (count + 1) t)) }
-
-module _ (t : List ℕ) (from count : ℕ) (out : List ℕ) (j : ℕ) (h : ShiftAt t from count out j) where
-  pub shift-index : j < length out
-  shift-index = omega (arith, h.high, h.room, h.long)
-
-  pub shift-before : j - 1 < length out
-  shift-before = omega (arith, h.high, h.room, h.long)
-
-  pub shift-more : from < j → ShiftAt t from count (set out j (get_or out (j - 1) 0)) (j - 1)
-  shift-more l = record {
-    low = omega arith;
-    high = omega (arith, h.high);
-    room = h.room;
-    long = length-set out j (get_or out (j - 1) 0) ∙ h.long;
-    done = go j out l h.high h.done;
-  }
-    where
-      go : (i : ℕ) (o : List ℕ) → from < i → i ≤ count → o ≡ shifted t i count → set o i (get_or o (i - 1) 0) ≡ shifted t (i - 1) count
-      go zero o k m e = absurd (omega arith)
-      go (suc i) o k m e = rw (e, sub-one (suc i)) (shifted-more t i count m h.room)
-
-  pub shift-done : j ≤ from → out ≡ shifted t from count
-  shift-done l = let e : j ≡ from = omega (arith, h.low) in h.done ∙ rw e
-
-pub ruleset shift-laws = (shift-start, shift-index, shift-before, shift-more, shift-done)
+shift_copied t from count l =
+    let e : from + 1 + (count - from) ≡ count + 1 = omega arith in
+    rw e (append_assoc (take (from + 1) t) (take (count - from) (drop from t)) (drop (count + 1) t))
 
 -- ---- the insertion
 
@@ -291,9 +199,6 @@ module _ (s t : List ℕ) (count entry : ℕ) (name : List ℕ) (at : ℕ) (r : 
       go false eb = insert-last name (name_in s 0) at l (omega (arith, long-l, p.within)) ahead (omega (arith, long-l, ltb-false at count eb))
 
   module _ (t₁ : List ℕ) (et : t₁ ≡ shifted t at count) where
-    pub inserted-index : at < length t₁
-    inserted-index = rw (et, length-shifted t at count p.within h) (omega (arith, p.within))
-
     told : r ≡ false → map (name_in s) (take (count + 1) (set t₁ at entry)) ≡ insert_name (name_in s entry) l
     unfolding l
     told e =
@@ -312,8 +217,6 @@ module _ (s t : List ℕ) (count entry : ℕ) (name : List ℕ) (at : ℕ) (r : 
       sorted = rw (told e) (insert-ordered (name_in s entry) l o);
       rest = rw et (set_rest t at count entry p.within h);
     }
-
-pub ruleset insert-laws = (inserted-none, inserted-index, inserted_new)
 
 -- ---- whether a name is there
 

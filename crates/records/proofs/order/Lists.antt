@@ -73,7 +73,7 @@ module _ (s : List ℕ) (from n : ℕ) (t table : List ℕ) (at i count : ℕ) (
         let here : at + 0 ≡ at = omega arith in
         let first : get_or (drop at s) 0 0 ≡ get_or s at 0 = get_or-drop at s 0 0 ∙ rw here in
         let m-is : m ≡ take b (drop (at + 1) s) = em ∙ rw (eu, first, ← eb, drop-drop 1 at s) in
-        let name-is : name_in s ((at + 1) * 65536 + length m) ≡ m = entry-is s m at (omega arith) (rw m-is (take-front b (drop (at + 1) s))) in
+        let name_is : name_in s ((at + 1) * 65536 + length m) ≡ m = entry-is s m at (omega arith) (rw m-is (take-front b (drop (at + 1) s))) in
         let k : n - i ≡ suc (n - (i + 1)) = omega arith in
         let d : at + (1 + b) ≡ at + 1 + b = omega arith in
         record {
@@ -84,10 +84,10 @@ module _ (s : List ℕ) (from n : ℕ) (t table : List ℕ) (at i count : ℕ) (
           near = omega (arith, h.near);
           long = j.long ∙ h.long;
           few = omega (arith, j.most, h.few);
-          small = rw (j.names_are, name-is) (insert_all is_short m (map (name_in s) (take count table)) (short_is m lm) h.small);
+          small = rw (j.names_are, name_is) (insert_all is_short m (map (name_in s) (take count table)) (short_is m lm) h.small);
           sorted = j.sorted;
           rest = rest_more count count₁ table₁ table t j.least j.rest h.rest;
-          left = h.left ∙ rw (k, j.names_are, name-is, em, eu, first, ← eb, drop-drop (1 + b) at s, d);
+          left = h.left ∙ rw (k, j.names_are, name_is, em, eu, first, ← eb, drop-drop (1 + b) at s, d);
         }
 
   pub list_done : n ≤ i → NamesInserted s (names_of n (drop from s)) t table 0 count
@@ -99,4 +99,4 @@ module _ (s : List ℕ) (from n : ℕ) (t table : List ℕ) (at i count : ℕ) (
   pub list-few : count ≤ n
   list-few = omega (arith, h.few, h.within)
 
-pub ruleset list-laws = (list-start, list-sorted, list_count, list-first, list-high, list-entry, list-after, list-more, list_done, list-few)
+pub ruleset list_laws = (list-start, list-sorted, list_count, list-first, list-high, list-entry, list-after, list-more, list_done, list-few)

@@ -10,14 +10,14 @@ use Rattle.records.specs.Name.{name_of}
 use Rattle.records.specs.Record.{bodies, next_of}
 use borrow.Author.Tests.{le-leb}
 use Rattle.records.specs.Order.{ordered_from, ordered, is_ordered, all_names, is_short, all_short, name_in, packages_of, Inserted, NamesInserted, PackagesOrdered}
-use Rattle.records.specs.declared.record.Cursor.{Cursor}
-use Rattle.records.specs.declared.record.Next.{Next}
-use Rattle.records.specs.declared.record.Next.TheVariants.{Body, Nothing}
+use Rattle.records.specs.Record.{Next}
 use Rattle.records.specs.declared.record.Kind.{Kind}
 use Rattle.records.specs.declared.record.Kind.TheVariants.{Package}
 use Rattle.records.proofs.order.Laws.{drop-take}
 use Rattle.records.proofs.order.Ordered.{insert_all}
 use Rattle.records.proofs.record.Bodies.{bodies-next, bodies-end, next-room, next-later, next-less, next-within, body-room}
+use Rattle.std.specs.Prelude.{Some, None}
+use Rattle.records.specs.declared.record.Span.{Span}
 
 -- ---- the entry of a name
 
@@ -119,54 +119,54 @@ module _ (s : List ℕ) (from to : ℕ) (kind : Kind) (t : List ℕ) (count : �
   source-most = rw h.cut (take-most to s)
 
   module _ (r : Next) (er : r ≡ next_of kind source at) where
-    module _ (start len : ℕ) (next : Cursor) (e : r ≡ Body start len next) where
+    module _ (span : Span) (e : r ≡ Some span) where
       within : at ≤ length source
-      within = next-within kind source at r er start len next e
+      within = next-within kind source at r er span.start span.len span.next e
 
-      after-within : next.at ≤ length source
-      after-within = next-room kind source at r er start len next e within
+      after-within : span.next.at ≤ length source
+      after-within = next-room kind source at r er span.start span.len span.next e within
 
-      later : at + 4 ≤ next.at
-      later = next-later kind source at r er start len next e
+      later : at + 4 ≤ span.next.at
+      later = next-later kind source at r er span.start span.len span.next e
 
-      body-within : start ≤ 65535
-      body-within = omega (arith, body-room kind source at r er start len next e within, source-short, h.short)
+      body-within : span.start ≤ 65535
+      body-within = omega (arith, body-room kind source at r er span.start span.len span.next e within, source-short, h.short)
 
       pub names-count : n < length table
       names-count = omega (arith, after-within, later, source-most, h.few, h.wide, h.long)
 
       -- the entry is a number of 64 bits
-      pub names-first : start + 1 < 2 ^ 64
+      pub names-first : span.start + 1 < 2 ^ 64
       names-first = omega (arith, body-within)
 
-      pub names-high : (start + 1) * 65536 < 2 ^ 64
+      pub names-high : (span.start + 1) * 65536 < 2 ^ 64
       names-high = omega (arith, body-within)
 
-      pub names-less : length source - next.at < length source - at
-      names-less = next-less kind source at r er start len next e within
+      pub names-less : length source - span.next.at < length source - at
+      names-less = next-less kind source at r er span.start span.len span.next e within
 
-      module _ (b m : List ℕ) (eb : b ≡ take len (drop start source)) (em : m ≡ name_of b) where
-        pub names-entry : (start + 1) * 65536 + length m < 2 ^ 64
-        names-entry = omega (arith, body-within, name-short s source b m to start len h.cut eb em, h.short)
+      module _ (b m : List ℕ) (eb : b ≡ take span.len (drop span.start source)) (em : m ≡ name_of b) where
+        pub names-entry : (span.start + 1) * 65536 + length m < 2 ^ 64
+        names-entry = omega (arith, body-within, name-short s source b m to span.start span.len h.cut eb em, h.short)
 
-        pub names_more : length m ≤ 255 → (table₁ : List ℕ) (n₁ : ℕ) → Inserted s table table₁ n ((start + 1) * 65536 + length m) n₁
-            → NamesAt s from to kind t count source table₁ n₁ next.at
+        pub names_more : length m ≤ 255 → (table₁ : List ℕ) (n₁ : ℕ) → Inserted s table table₁ n ((span.start + 1) * 65536 + length m) n₁
+            → NamesAt s from to kind t count source table₁ n₁ span.next.at
         unfolding ordered_from all_short
         names_more lm table₁ n₁ i =
-            let name-is : name_in s ((start + 1) * 65536 + length m) ≡ m = entry-name s source b m to start len h.cut eb em h.short in
+            let name_is : name_in s ((span.start + 1) * 65536 + length m) ≡ m = entry-name s source b m to span.start span.len h.cut eb em h.short in
             record {
               short = h.short;
               wide = h.wide;
               cut = h.cut;
               long = i.long ∙ h.long;
               few = omega (arith, i.most, h.few, later, after-within, source-most);
-              small = λ a. rw (i.names_are, name-is) (insert_all is_short m (map (name_in s) (take n table)) (short_is m lm) (h.small a));
+              small = λ a. rw (i.names_are, name_is) (insert_all is_short m (map (name_in s) (take n table)) (short_is m lm) (h.small a));
               sorted = i.sorted;
               rest = rest_more n n₁ table₁ table t i.least i.rest h.rest;
-              left = h.left ∙ rw (bodies-next kind source at r er start len next e within, i.names_are, name-is, em, eb);
+              left = h.left ∙ rw (bodies-next kind source at r er span.start span.len span.next e within, i.names_are, name_is, em, eb);
             }
 
-    pub names-done : r ≡ Nothing → NamesInserted s (map name_of (bodies kind (drop from (take to s)))) t table count n
+    pub names-done : r ≡ None → NamesInserted s (map name_of (bodies kind (drop from (take to s)))) t table count n
     unfolding ordered_from
     names-done e = record {
       names_are = sym (h.left ∙ rw (bodies-end kind source at r er e));
@@ -179,7 +179,7 @@ module _ (s : List ℕ) (from to : ℕ) (kind : Kind) (t : List ℕ) (count : �
   pub names-few : 4 * n ≤ 4 * count + (to - from)
   names-few = omega (arith, h.few)
 
-pub ruleset names-laws = (names-start, names-sorted, names-count, names-first, names-high, names-entry, names-less, names_more, names-done, names-few)
+pub ruleset names_laws = (names-start, names-sorted, names-count, names-first, names-high, names-entry, names-less, names_more, names-done, names-few)
 
 -- ---- the packages
 

@@ -114,3 +114,7 @@ module _ (o n s t : List ℕ) (count : ℕ) (room : length (automatic_records n 
 
       pub records-bytes : o₂ ≡ written o 0 (automatic_records n (map (name_in s) (take count t)))
       records-bytes = all.bytes
+
+pub ruleset put_entries_laws = (exports_room, opens-room, entries-put)
+
+pub ruleset put_packages_laws = (package_room, packages_put)

@@ -6,13 +6,13 @@ use mathlib.Core.Bool.{true}
 use native.Mathlib.Omega.{arith}
 use native.Mathlib.Numerals.{add-one}
 use lib.ListN.{length, get_or, take, drop, length-append}
-use lib.Seq.{length-take-le}
+use lib.Seq.{length-take-le, get_or-take}
 use lib.Dec.{leb}
 use borrow.Author.Tests.{leb-true}
 use Rattle.records.specs.Output.{written}
 use Rattle.records.specs.Order.{name_in}
 use Rattle.records.specs.Record.{mark_for}
-use Rattle.records.specs.Output.{Put, record_bytes, marked, no_targets, group, group_of, names_in, GroupRoom}
+use Rattle.records.specs.Output.{Put, record_bytes, marked, no_targets, group, group_of, names_in}
 use Rattle.records.specs.Order.{all_short, all_names, is_short}
 use Rattle.records.specs.declared.record.Kind.{Kind}
 use Rattle.records.proofs.output.Written.{put-long, written-two, written_none}
@@ -50,29 +50,17 @@ pub record GroupAt (o : List ℕ) (at m e : ℕ) (s t : List ℕ) (count : ℕ) 
   pub place : at + length (group_of m e (names_in s t count)) ≡ b + length (group_of m e (drop i (names_in s t count)))
   pub left : written o at (group_of m e (names_in s t count)) ≡ written out b (group_of m e (drop i (names_in s t count)))
 
-pub group-start : (o : List ℕ) (at m e : ℕ) (s t : List ℕ) (count : ℕ) → GroupRoom o at m e s t count → GroupAt o at m e s t count o at 0
-group-start o at m e s t count h = record {
-  entries = h.entries;
-  ends = h.ends;
-  within = omega arith;
-  long = refl;
-  short = h.short;
-  room = h.room;
-  place = refl;
-  left = refl;
-}
-
 module _ {o : List ℕ} {at m e : ℕ} {s t : List ℕ} {count : ℕ} {out : List ℕ} {b i : ℕ} (h : GroupAt o at m e s t count out b i) where
   abbrev rest : List (List ℕ)
   rest = drop (suc i) (names_in s t count)
 
   module _ (end : List ℕ) (ee : end ≡ take e no_targets) where
-    pub group-ends : length end ≤ 2
-    group-ends = omega (arith, ap length ee, length-take-le e no_targets h.ends, h.ends)
+    module _ (l : i < length (take count t)) (r : List ℕ) (er : r ≡ name_in s (get_or (take count t) i 0)) where
+      inside : i < count
+      inside = omega (arith, length-take-le count t h.entries)
 
-    module _ (l : i < count) (r : List ℕ) (er : r ≡ name_in s (get_or t i 0)) where
       next : drop i (names_in s t count) ≡ r ∷ rest
-      next = names-next s t count i h.entries l ∙ rw (← er)
+      next = names-next s t count i h.entries inside ∙ rw (← get_or-take count t i 0 inside, ← er)
 
       pub group-short : length r ≤ 255
       group-short = short-first r rest (rw next at h.short)
@@ -92,7 +80,7 @@ module _ {o : List ℕ} {at m e : ℕ} {s t : List ℕ} {count : ℕ} {out : Lis
           record {
             entries = h.entries;
             ends = h.ends;
-            within = omega arith;
+            within = omega (arith, inside);
             long = same ∙ h.long;
             short = rw (add-one i) (short-rest r rest (rw next at h.short));
             room = rw (add-one i) (omega (arith, h.room, long-next, same, one, p.place));
@@ -100,11 +88,13 @@ module _ {o : List ℕ} {at m e : ℕ} {s t : List ℕ} {count : ℕ} {out : Lis
             left = h.left ∙ rw (add-one i, next, p.bytes, p.place, ← ee) (sym (written-two out b (marked m r end) (group_of m e rest) fits));
           }
 
-  pub group-done : count ≤ i → Put o at (group_of m e (names_in s t count)) out b
+  pub group-done : length (take count t) ≤ i → Put o at (group_of m e (names_in s t count)) out b
   unfolding group_of
   group-done l =
-      let none : drop i (names_in s t count) ≡ [] = names-end s t count i h.entries l in
+      let none : drop i (names_in s t count) ≡ [] = names-end s t count i h.entries (omega (arith, length-take-le count t h.entries)) in
       record {
         place = sym (h.place ∙ rw none (omega arith));
         bytes = sym (h.left ∙ rw none (written_none out b));
       }
+
+pub ruleset put_group_laws = (group-room, group-short, group-more, group-done)

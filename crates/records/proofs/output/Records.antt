@@ -57,3 +57,7 @@ module_room o n len h = omega (arith, h)
 
 pub module_put : (o n out : List ℕ) (r : ℕ) → Put o 0 (module_front (5 + length n) (length n) ++ (n ++ base_bytes)) out r → Put o 0 (module_record n ++ base_record) out r
 module_put o n out r p = rw (both_are n) p
+
+pub ruleset put_module_laws = (module_room, module_put)
+
+pub ruleset put_record_laws = (record_room, record_put)

@@ -1,6 +1,6 @@
 -- The packages of a table, and the bytes that their records take.
 use Prim.Native.Nat.{ℕ, zero, suc, ◌+◌, ◌*◌, ◌/◌, ◌%◌, ◌≤◌, ◌<◌}
-use mathlib.Core.Path.{◌≡◌, sym, ◌∙◌}
+use mathlib.Core.Path.{◌≡◌, sym, ◌∙◌, ap}
 use mathlib.Core.List.{List, [], ◌∷◌, map}
 use native.Mathlib.Omega.{arith}
 use native.Mathlib.Numerals.{add-one}
@@ -61,23 +61,31 @@ module _ (s r : List ℕ) (e : ℕ) (er : r ≡ name_in s e) where
   size-term = Fits-below {n = 196624} tt (omega (arith, told-fits))
 
 module _ {s t : List ℕ} {count n i : ℕ} (h : SizeAt s t count n i) where
-  module _ (l : i < count) (r : List ℕ) (er : r ≡ name_in s (get_or t i 0)) where
+  module _ (l : i < length (take count t)) (r : List ℕ) (er : r ≡ name_in s (get_or (take count t) i 0)) where
+    inside : i < count
+    inside = omega (arith, length-take-le count t h.entries)
+
+    entry : r ≡ name_in s (get_or t i 0)
+    entry = er ∙ ap (name_in s) (get_or-take count t i 0 inside)
+
     pub size-sum : Fits w64 (n + (3 * length r + 19))
-    size-sum = Fits-below {n = 3221487616} tt (omega (arith, told-fits s r (get_or t i 0) er, h.few, h.low))
+    size-sum = Fits-below {n = 3221487616} tt (omega (arith, inside, told-fits s r (get_or t i 0) entry, h.few, h.low))
 
     pub size-more : SizeAt s t count (n + (3 * length r + 19)) (i + 1)
     unfolding packages_size
     size-more = record {
       entries = h.entries;
       few = h.few;
-      within = omega arith;
-      low = omega (arith, told-fits s r (get_or t i 0) er, h.low);
-      left = h.left ∙ rw (names-next s t count i h.entries l, add-one i, ← er) (omega arith);
+      within = omega (arith, inside);
+      low = omega (arith, told-fits s r (get_or t i 0) entry, h.low);
+      left = h.left ∙ rw (names-next s t count i h.entries inside, add-one i, ← entry) (omega arith);
     }
 
-  pub size-done : count ≤ i → n ≡ packages_size (map (name_in s) (take count t))
+  pub size-done : length (take count t) ≤ i → n ≡ packages_size (map (name_in s) (take count t))
   unfolding packages_size names_in
-  size-done l = sym (h.left ∙ rw (names-end s t count i h.entries l) (omega arith))
+  size-done l = sym (h.left ∙ rw (names-end s t count i h.entries (omega (arith, length-take-le count t h.entries))) (omega arith))
 
-  pub size_low : count ≤ i → n ≤ count * 196624
-  size_low l = omega (arith, h.within, h.low)
+  pub size_low : n ≤ count * 196624
+  size_low = omega (arith, h.within, h.low)
+
+pub ruleset size_laws = (size-mul, size-term, size-sum, size-more, size-done)

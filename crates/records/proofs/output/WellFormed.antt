@@ -1,15 +1,15 @@
 -- The bodies that are made are well-formed.
 use Prim.Native.Nat.{ℕ, suc, ◌+◌, ◌<◌}
-use mathlib.Core.Path.{◌≡◌, refl}
+use mathlib.Core.Path.{◌≡◌}
 use mathlib.Core.List.{List, [], ◌∷◌, ◌++◌}
 use mathlib.Core.Bool.{true}
 use native.Mathlib.Omega.{arith}
 use lib.ListN.{length, length-append}
 use lib.Seq.{take-append_seam, drop-append_seam}
 use borrow.Author.Tests.{le-leb, lt-ltb}
-use Rattle.records.specs.Bytes.{same_bytes, u16_at}
-use Rattle.records.specs.Name.{java_base, printable, name_of, after_name, is_field, is_name, is_empty, is_names, is_list, is_version, is_name_version, is_name_list}
-use Rattle.records.specs.Record.{is_module, is_requires}
+use Rattle.records.specs.Bytes.{u16_at}
+use Rattle.records.specs.Name.{printable, name_of, after_name, is_field, is_name, is_empty, is_names, is_list, is_version, is_name_version, is_name_list}
+use Rattle.records.specs.Record.{is_module}
 use Rattle.records.specs.Output.{name_bytes, no_targets}
 
 -- a name with its length byte in front, and t behind
@@ -44,7 +44,3 @@ module _ (n : List ℕ) (p : printable n ≡ true) (l : 0 < length n) where
   pub package_made : is_names 1 (name_bytes n ++ []) ≡ true
   unfolding is_names is_empty
   package_made = rw (name-made n [] p l, after_read n [])
-
-pub base-made : is_requires (0x80 ∷ 0 ∷ (name_bytes java_base ++ (0 ∷ []))) ≡ true
-unfolding is_requires name_bytes name_of same_bytes is_name_version is_name is_version is_field is_empty after_name printable
-base-made = refl

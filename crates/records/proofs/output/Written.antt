@@ -1,12 +1,13 @@
--- Laws of what is written into a buffer, and what each turn of the loop that writes shows.
-use Prim.Native.Nat.{ℕ, ◌+◌, ◌≤◌, ◌<◌}
+-- Laws of what is written into a buffer, and what each turn of a loop that writes shows.
+use Prim.Native.Nat.{ℕ, ◌+◌, ◌-◌, ◌≤◌}
 use mathlib.Core.Path.{◌≡◌, refl, sym, ◌∙◌, ap}
 use mathlib.Core.List.{List, [], ◌++◌, append_assoc}
 use native.Mathlib.Omega.{arith}
 use native.Mathlib.Nat.{add_assoc, add-zero}
-use native.Mathlib.Numerals.{add-one}
-use lib.ListN.{length, get_or, take, drop, set, length-set, length-append, length-drop, take-append-drop}
-use lib.Seq.{paste, paste-zero, paste-suc, take_all, take_at, drop-append-add, drop-drop, length-take-le}
+use lib.ListN.{length, take, drop, length-append, length-drop, take-append-drop}
+use borrow.Rule.Slice.PartMut.{put_mid}
+use Rattle.std.proofs.lemmas.Slice.{put_mid-paste}
+use lib.Seq.{take_all, take_at, drop-append-add, drop-drop, length-take-le}
 use Rattle.records.specs.Output.{written, Put}
 
 -- the bytes in front and those written, then the bytes behind
@@ -14,29 +15,12 @@ flat : (o : List ℕ) (at : ℕ) (s : List ℕ) → written o at s ≡ (take at 
 unfolding written
 flat o at s = sym (append_assoc (take at o) s (drop (at + length s) o))
 
--- out is o with the first i bytes of s written at `at`
-pub record PutAt (o : List ℕ) (at : ℕ) (s out : List ℕ) (i : ℕ) : Type 0 where
-  pub room : at + length s ≤ length o
-  pub within : i ≤ length s
-  pub long : length out ≡ length o
-  pub done : out ≡ paste o at s i
-
-pub put-start : (o : List ℕ) (at : ℕ) (s : List ℕ) → at + length s ≤ length o → PutAt o at s o 0
-put-start o at s h = record { room = h; within = omega arith; long = refl; done = paste-zero o at s }
-
-module _ (o : List ℕ) (at : ℕ) (s out : List ℕ) (i : ℕ) (h : PutAt o at s out i) where
-  pub put-more : i < length s → PutAt o at s (set out (at + i) (get_or s i 0)) (i + 1)
-  put-more l = record {
-    room = h.room;
-    within = omega arith;
-    long = length-set out (at + i) (get_or s i 0) ∙ h.long;
-    done = rw (h.done, add-one i) (paste-suc o at s i 0 (omega (arith, h.room)) l);
-  }
-
-  pub put-done : length s ≤ i → Put o at s out (at + i)
-  put-done l =
-      let e : i ≡ length s = omega (arith, h.within) in
-      record { place = rw e; bytes = h.done ∙ rw (e, take_all (length s) s (omega arith)) (sym (flat o at s)) }
+-- a copy of s into its place
+pub put_copied : (o : List ℕ) (at : ℕ) (s u : List ℕ) → u ≡ s → Put o at s (put_mid at (at + length s - at) o u) (at + length s)
+put_copied o at s u e = record {
+  place = refl;
+  bytes = put_mid-paste at (at + length s - at) o u s (length s) e (omega arith) refl ∙ rw (take_all (length s) s (omega arith)) (sym (flat o at s));
+}
 
 drop_past : (p d : List ℕ) (n m : ℕ) → length p ≡ n → drop (n + m) (p ++ d) ≡ drop m d
 drop_past p d n m e = rw (← e) (drop-append-add p d m)
@@ -92,3 +76,5 @@ module _ (o : List ℕ) (at : ℕ) (s t u : List ℕ) (h : at + (length s + (len
 
       pub put_three : (o₃ : List ℕ) (d : ℕ) → Put o₂ c u o₃ d → Put o at (s ++ (t ++ u)) o₃ d
       put_three o₃ d r = put_both o at s o₁ b (t ++ u) o₃ d first-room p (put_both o₁ b t o₂ c u o₃ d second-room q r)
+
+pub ruleset put_named_laws = (first-room, second-room, third-room, put_three)

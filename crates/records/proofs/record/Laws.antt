@@ -16,6 +16,8 @@ use Rattle.records.specs.declared.record.Step.{Step}
 use Rattle.records.specs.declared.record.Step.TheVariants.{Record, Bad, End}
 use Rattle.records.proofs.Logic.{clash}
 use Rattle.records.proofs.bytes.Laws.{u16-drop}
+use Rattle.records.specs.declared.record.Span.{Span}
+use Rattle.std.specs.Prelude.{Some}
 
 -- ---- unrolling
 
@@ -155,7 +157,7 @@ module _ (s : List ℕ) (at : ℕ) (r : Step) (er : r ≡ step_at s at) where
       go true eb w ew = ltb-true at (length s) eb
       go false eb w ew = clash (cc)
 
-pub ruleset step-laws = (step_end, step-short, step-long, step-whole)
+pub ruleset step_laws = (step_end, step-short, step-long, step-whole)
 
 -- ---- the record that a step finds
 
@@ -278,3 +280,15 @@ splits_more a e ih = record { in_two = two }
 
 pub splits : (a : List ℕ) → Splits a
 splits = records-ind Splits splits_stop splits_more
+
+-- ---- where a body stands
+
+pub record SameSpan (a b : Span) : Type 0 where
+  pub start : a.start ≡ b.start
+  pub len : a.len ≡ b.len
+  pub next : a.next ≡ b.next
+
+pub some_span : (a b : Span) → Some a ≡ Some b → SameSpan a b
+some_span a b h =
+    let e : a ≡ b = cc in
+    record { start = ap (λ (x : Span). x.start) e; len = ap (λ (x : Span). x.len) e; next = ap (λ (x : Span). x.next) e }

@@ -18,27 +18,25 @@ use Rattle.records.specs.declared.error.Input.{Input}
 use Rattle.records.specs.declared.error.Input.TheVariants.{Request}
 use Rattle.records.specs.declared.error.ModuleError.{ModuleError}
 use Rattle.records.specs.declared.error.ModuleError.TheVariants.{Malformed, TooLarge}
-use Rattle.records.specs.Set.{pick_checked, refused, check_set}
+use Rattle.records.specs.Set.{pick_checked, check_set}
+use Rattle.records.specs.Set.{SetAnswer}
 use Rattle.records.specs.declared.set.Checked.{Checked}
 use Rattle.records.proofs.set.Laws.{check-none}
-use Rattle.records.specs.declared.set.SetAnswer.TheVariants.{Modules}
-use Rattle.records.specs.declared.set.SetAnswer.TheVariants as Set
 use Rattle.records.specs.declared.record.Cursor.{Cursor}
 use Rattle.records.specs.declared.record.Step.{Step}
 use Rattle.records.specs.declared.record.Step.TheVariants.{Record, Bad, End}
-use Rattle.records.specs.declared.record.Next.{Next}
-use Rattle.records.specs.declared.record.Next.TheVariants.{Body, Nothing}
+use Rattle.records.specs.Record.{Next}
 use Rattle.records.specs.declared.record.Kind.{Kind}
 use Rattle.records.specs.declared.record.Kind.TheVariants.{Module, Requires, Exports, Opens, Uses, Provides, Package, MainClass, Place, Root, LimitModules, AddReads, AddExports, AddOpens, Static, Other}
 use Rattle.records.specs.declared.request.Once.{Once}
-use Rattle.records.specs.declared.request.Row.{Row}
-use Rattle.records.specs.declared.request.RecordsAnswer.{RecordsAnswer}
-use Rattle.records.specs.declared.request.RecordsAnswer.TheVariants.{Good, Refused}
+use Rattle.records.specs.Request.{Row}
 use Rattle.records.proofs.Logic.{clash}
 use Rattle.records.specs.contracts.record.Kind.{the_type}
 use Rattle.records.proofs.record.Laws.{Stepped, stepped, stepped-bad, stepped-end, stepped_in, records-next, front-mark, front-body, front_length, records-none, records-end, step_less}
 use Rattle.records.proofs.record.Bodies.{bodies-next, bodies-end}
-use Rattle.records.proofs.record.Search.{first_body, is_found, found-yes, found-no}
+use Rattle.records.proofs.record.Search.{first_body, is_found, found-told}
+use Rattle.std.specs.Prelude.{Some, None, is_some, Ok, Err}
+use Rattle.records.specs.declared.record.Span.{Span}
 
 -- ---- one record
 
@@ -80,29 +78,29 @@ unfolding same_kind mark_for
 statics k e = record { is_limit = rw e; is_static = rw e }
 
 module _ (o : Once) (i : Input) (mark : ℕ) (k : Kind) (ek : k ≡ kind_in i mark) (b : List ℕ) (q : Bool) (eq : q ≡ is_body k b) where
-  pub row-bad : q ≡ false → Row.Bad ≡ row_of o (kind_in i mark) b
+  pub row-bad : q ≡ false → None ≡ row_of o (kind_in i mark) b
   unfolding row_of
   row-bad e = sym (rw (← ek, ← eq, e))
 
   module _ (e : q ≡ true) where
     row_is : (l t : Bool) → Which k l t
-        → row_of o (kind_in i mark) b ≡ pick_row (not ((o.limited && l) || (o.statics && t))) (Row.Pass (record { limited = o.limited || l; statics = o.statics || t })) Row.Bad
+        → row_of o (kind_in i mark) b ≡ pick_row (not ((o.limited && l) || (o.statics && t))) (Some (record { limited = o.limited || l; statics = o.statics || t })) None
     unfolding row_of
     row_is l t w = rw (← ek, ← eq, e, w.is_limit, w.is_static)
 
-    pub row_other : OneOf others (tag_of the_type k) → Row.Pass o ≡ row_of o (kind_in i mark) b
+    pub row_other : OneOf others (tag_of the_type k) → Some o ≡ row_of o (kind_in i mark) b
     row_other h = sym (row_is false false (neither k h) ∙ rw (and-false o.limited, and-false o.statics, or-false o.limited, or-false o.statics))
 
-    pub row-second-limit : k ≡ LimitModules → o.limited ≡ true → Row.Bad ≡ row_of o (kind_in i mark) b
+    pub row-second-limit : k ≡ LimitModules → o.limited ≡ true → None ≡ row_of o (kind_in i mark) b
     row-second-limit m l = sym (row_is true false (limits k m) ∙ rw l)
 
-    pub row-limit : k ≡ LimitModules → o.limited ≡ false → (x : Once) → x ≡ record { limited = true; statics = o.statics } → Row.Pass x ≡ row_of o (kind_in i mark) b
+    pub row-limit : k ≡ LimitModules → o.limited ≡ false → (x : Once) → x ≡ record { limited = true; statics = o.statics } → Some x ≡ row_of o (kind_in i mark) b
     row-limit m l x ex = sym (row_is true false (limits k m) ∙ rw (l, and-false o.statics, or-false o.statics, ex))
 
-    pub row-second_static : k ≡ Static → o.statics ≡ true → Row.Bad ≡ row_of o (kind_in i mark) b
+    pub row-second_static : k ≡ Static → o.statics ≡ true → None ≡ row_of o (kind_in i mark) b
     row-second_static m l = sym (row_is false true (statics k m) ∙ rw (l, and-false o.limited))
 
-    pub row_static : k ≡ Static → o.statics ≡ false → (x : Once) → x ≡ record { limited = o.limited; statics = true } → Row.Pass x ≡ row_of o (kind_in i mark) b
+    pub row_static : k ≡ Static → o.statics ≡ false → (x : Once) → x ≡ record { limited = o.limited; statics = true } → Some x ≡ row_of o (kind_in i mark) b
     row_static m l x ex = sym (row_is false true (statics k m) ∙ rw (l, and-false o.limited, or-false o.limited, ex))
 
 pub ruleset row_laws = (row-bad, row_other, row-second-limit, row-limit, row-second_static, row_static)
@@ -114,7 +112,7 @@ pub record CheckAt (i : Input) (s : List ℕ) (o : Once) (at : ℕ) : Type 0 whe
   pub within : at ≤ length s
   pub left : check_records i s ≡ check_records_from i (length s) o at (records (drop at s))
 
-pub check-long : (i : Input) (s : List ℕ) → 65535 < length s → Refused (TooLarge 0) ≡ check_records i s
+pub check-long : (i : Input) (s : List ℕ) → 65535 < length s → Err (TooLarge 0) ≡ check_records i s
 unfolding check_records
 check-long i s l = rw (lt-ltb 65535 (length s) l)
 
@@ -128,33 +126,33 @@ module _ (i : Input) (s : List ℕ) (o : Once) (at : ℕ) (h : CheckAt i s o at)
     p : Stepped s at mark start len next
     p = stepped s at step es mark start len next er
 
-    turn : check_records i s ≡ row_on v (Refused (Malformed i at)) (λ o₂. check_records_from i (length s) o₂ next.at (records (drop next.at s)))
+    turn : check_records i s ≡ row_on v (Err (Malformed i at)) (λ o₂. check_records_from i (length s) o₂ next.at (records (drop next.at s)))
     unfolding check_records_from
     turn =
         h.left
         ∙ rw (records-next s at mark start len next p, front-mark s at mark start len next p, front-body s at mark start len next p, front_length s at mark start len next p, ev, eb)
 
-    pub check-row : v ≡ Row.Bad → Refused (Malformed i at) ≡ check_records i s
+    pub check-row : v ≡ None → Err (Malformed i at) ≡ check_records i s
     unfolding row_on
     check-row e = sym (turn ∙ rw e)
 
-    pub check-pass : (o₂ : Once) → v ≡ Row.Pass o₂ → CheckAt i s o₂ next.at
+    pub check-pass : (o₂ : Once) → v ≡ Some o₂ → CheckAt i s o₂ next.at
     unfolding row_on
     check-pass o₂ e = record { within = omega (arith, p.next_is, p.room); left = turn ∙ rw e }
 
-  pub check-bad : step ≡ Bad → Refused (Malformed i at) ≡ check_records i s
+  pub check-bad : step ≡ Bad → Err (Malformed i at) ≡ check_records i s
   unfolding check_records_from
   check-bad e =
       let l : at < length s = stepped_in s at step es e in
       sym (h.left ∙ rw (records-none (drop at s) (stepped-bad s at step es e), ne_eqb at (length s) (omega arith)))
 
-  pub check-end : step ≡ End → Good ≡ check_records i s
+  pub check-end : step ≡ End → (Ok tt) ≡ check_records i s
   unfolding check_records_from
   check-end e =
       let l : length s ≤ at = stepped-end s at step es e in
       sym (h.left ∙ rw (records-end s at l, eq-eqb at (length s) (omega (arith, h.within))))
 
-pub ruleset check-laws = (check-long, check-start, check-row, check-pass, check-bad, check-end, step_less)
+pub ruleset check_laws = (check-long, check-start, check-row, check-pass, check-bad, check-end, step_less)
 
 -- ---- what a good check shows
 
@@ -163,7 +161,7 @@ unfoldable pub all_bodies : (List ℕ → Bool) → List (List ℕ) → Bool
 all_bodies f [] = true
 all_bodies f (b ∷ bs) = f b && all_bodies f bs
 
-pub good-short : (i : Input) (s : List ℕ) → check_records i s ≡ Good → length s ≤ 65535
+pub good-short : (i : Input) (s : List ℕ) → check_records i s ≡ (Ok tt) → length s ≤ 65535
 unfolding check_records
 good-short i s e = go (ltb 65535 (length s)) refl
   where
@@ -171,28 +169,28 @@ good-short i s e = go (ltb 65535 (length s)) refl
     go true eb = clash (cc)
     go false eb = ltb-false 65535 (length s) eb
 
-good-long : (i : Input) (s : List ℕ) → check_records i s ≡ Good → check_records_from i (length s) none_once 0 (records s) ≡ Good
+good-long : (i : Input) (s : List ℕ) → check_records i s ≡ (Ok tt) → check_records_from i (length s) none_once 0 (records s) ≡ (Ok tt)
 unfolding check_records
 good-long i s e = go (ltb 65535 (length s)) refl
   where
-    go : (b : Bool) → ltb 65535 (length s) ≡ b → check_records_from i (length s) none_once 0 (records s) ≡ Good
+    go : (b : Bool) → ltb 65535 (length s) ≡ b → check_records_from i (length s) none_once 0 (records s) ≡ (Ok tt)
     go true eb = clash (cc)
     go false eb = rw eb at e
 
 -- a record that is not bad has a well-formed body
-row-good : (o : Once) (k : Kind) (b : List ℕ) (v : Row) → row_of o k b ≡ v → (v ≡ Row.Bad → ⊥) → is_body k b ≡ true
+row-good : (o : Once) (k : Kind) (b : List ℕ) (v : Row) → row_of o k b ≡ v → (v ≡ None → ⊥) → is_body k b ≡ true
 unfolding row_of
 row-good o k b v e n = go (is_body k b) refl e
   where
     passed : Row
-    passed = Row.Pass (record { limited = o.limited || same_kind k LimitModules; statics = o.statics || same_kind k Static })
+    passed = Some (record { limited = o.limited || same_kind k LimitModules; statics = o.statics || same_kind k Static })
 
-    go : (q : Bool) → is_body k b ≡ q → pick_row (q && not ((o.limited && same_kind k LimitModules) || (o.statics && same_kind k Static))) passed Row.Bad ≡ v → q ≡ true
+    go : (q : Bool) → is_body k b ≡ q → pick_row (q && not ((o.limited && same_kind k LimitModules) || (o.statics && same_kind k Static))) passed None ≡ v → q ≡ true
     go true eq h = refl
     go false eq h = absurd (n (sym h))
 
 module _ (i : Input) (k : Kind) (ek : kind_in i (mark_for k) ≡ k) where
-  good-from : (n : ℕ) (o : Once) (at : ℕ) (rs : List (List ℕ)) → check_records_from i n o at rs ≡ Good → all_bodies (is_body k) (bodies_in k rs) ≡ true
+  good-from : (n : ℕ) (o : Once) (at : ℕ) (rs : List (List ℕ)) → check_records_from i n o at rs ≡ (Ok tt) → all_bodies (is_body k) (bodies_in k rs) ≡ true
   unfolding check_records_from all_bodies bodies_in is_of row_on
   good-from n o at [] e = refl
   good-from n o at (r ∷ rs) e = by_row (row_of o (kind_in i (mark_of r)) (body_of r)) refl (λ o₂. good-from n o₂ (at + length r) rs) e
@@ -204,13 +202,13 @@ module _ (i : Input) (k : Kind) (ek : kind_in i (mark_for k) ≡ k) where
           rw (eo, v) ih
       more eb ih false eo = rw eo ih
 
-      by_row : (v : Row) → row_of o (kind_in i (mark_of r)) (body_of r) ≡ v → ((o₂ : Once) → check_records_from i n o₂ (at + length r) rs ≡ Good → all_bodies (is_body k) (bodies_in k rs) ≡ true)
-          → row_on (row_of o (kind_in i (mark_of r)) (body_of r)) (Refused (Malformed i at)) (λ o₂. check_records_from i n o₂ (at + length r) rs) ≡ Good → all_bodies (is_body k) (bodies_in k (r ∷ rs)) ≡ true
-      by_row Row.Bad ev ih h = let z : Refused (Malformed i at) ≡ Good = rw ev at h in clash (cc)
-      by_row (Row.Pass o₂) ev ih h = more (row-good o (kind_in i (mark_of r)) (body_of r) (Row.Pass o₂) ev (λ z. clash (cc))) (ih o₂ (rw ev at h)) (eqb (mark_of r) (mark_for k)) refl
+      by_row : (v : Row) → row_of o (kind_in i (mark_of r)) (body_of r) ≡ v → ((o₂ : Once) → check_records_from i n o₂ (at + length r) rs ≡ (Ok tt) → all_bodies (is_body k) (bodies_in k rs) ≡ true)
+          → row_on (row_of o (kind_in i (mark_of r)) (body_of r)) (Err (Malformed i at)) (λ o₂. check_records_from i n o₂ (at + length r) rs) ≡ (Ok tt) → all_bodies (is_body k) (bodies_in k (r ∷ rs)) ≡ true
+      by_row None ev ih h = let z : Err (Malformed i at) ≡ (Ok tt) = rw ev at h in clash (cc)
+      by_row (Some o₂) ev ih h = more (row-good o (kind_in i (mark_of r)) (body_of r) (Some o₂) ev (λ z. clash (cc))) (ih o₂ (rw ev at h)) (eqb (mark_of r) (mark_for k)) refl
 
 -- every body of a kind that the input knows is well-formed
-pub good-bodies : (i : Input) (s : List ℕ) → check_records i s ≡ Good → (k : Kind) → kind_in i (mark_for k) ≡ k → all_bodies (is_body k) (bodies k s) ≡ true
+pub good-bodies : (i : Input) (s : List ℕ) → check_records i s ≡ (Ok tt) → (k : Kind) → kind_in i (mark_for k) ≡ k → all_bodies (is_body k) (bodies k s) ≡ true
 unfolding bodies
 good-bodies i s e k ek = good-from i k ek (length s) none_once 0 (records s) (good-long i s e)
 
@@ -222,14 +220,14 @@ module _ (s name : List ℕ) (r : Bool) (er : r ≡ same_bytes name java_base) w
   permitted_base e = cc
 
   module _ (e : r ≡ false) (n : Next) (en : n ≡ next_of LimitModules s 0) where
-    pub permitted_limit : (start len : ℕ) (next : Cursor) → n ≡ Body start len next → (b : List ℕ) → b ≡ take len (drop start s) → (q : Bool) → q ≡ mem_name name (list_of b)
+    pub permitted_limit : (span : Span) → n ≡ Some span → (b : List ℕ) → b ≡ take span.len (drop span.start s) → (q : Bool) → q ≡ mem_name name (list_of b)
         → q ≡ is_permitted (request_of s) name
     unfolding is_permitted request_of limit_of within_limit
-    permitted_limit start len next eb b el q eq =
-        let f : bodies LimitModules s ≡ take len (drop start s) ∷ bodies LimitModules (drop next.at s) = bodies-next LimitModules s 0 n en start len next eb (omega arith) in
+    permitted_limit span eb b el q eq =
+        let f : bodies LimitModules s ≡ take span.len (drop span.start s) ∷ bodies LimitModules (drop span.next.at s) = bodies-next LimitModules s 0 n en span.start span.len span.next eb (omega arith) in
         sym (rw (← er, e, f, ← el, ← eq))
 
-    pub permitted_all : n ≡ Nothing → true ≡ is_permitted (request_of s) name
+    pub permitted_all : n ≡ None → true ≡ is_permitted (request_of s) name
     unfolding is_permitted request_of limit_of within_limit
     permitted_all eb =
         let f : bodies LimitModules s ≡ [] = bodies-end LimitModules s 0 n en eb in
@@ -239,15 +237,15 @@ pub ruleset permitted_laws = (permitted_base, permitted_limit, permitted_all)
 
 -- an ST is there just if the search finds one
 module _ (s : List ℕ) (n : Next) (en : n ≡ next_of Static s 0) where
-  pub static_yes : (start len : ℕ) (next : Cursor) → n ≡ Body start len next → true ≡ (request_of s).has_static
+  pub static_told : (q : Bool) → q ≡ is_some n → q ≡ (request_of s).has_static
   unfolding request_of has_any
-  static_yes start len next e =
-      let f : bodies Static s ≡ take len (drop start s) ∷ bodies Static (drop next.at s) = bodies-next Static s 0 n en start len next e (omega arith) in
-      sym (rw f)
-
-  pub static_no : n ≡ Nothing → false ≡ (request_of s).has_static
-  unfolding request_of has_any
-  static_no e = let f : bodies Static s ≡ [] = bodies-end Static s 0 n en e in sym (rw f)
+  static_told q h = h ∙ go n refl
+    where
+      go : (x : Next) → n ≡ x → is_some n ≡ has_any (bodies Static s)
+      go (Some b) e =
+          let f : bodies Static s ≡ take b.len (drop b.start s) ∷ bodies Static (drop b.next.at s) = bodies-next Static s 0 n en b.start b.len b.next e (omega arith) in
+          ap is_some e ∙ sym (rw f)
+      go None e = let f : bodies Static s ≡ [] = bodies-end Static s 0 n en e in ap is_some e ∙ sym (rw f)
 
 -- an AR of these names is there just if the search finds one
 pub read_first : (source target : List ℕ) (bs : List (List ℕ)) → has_read (map read_of bs) source target ≡ is_found (first_body (source ∷ target ∷ []) bs)
@@ -262,13 +260,9 @@ read_first source target (b ∷ bs) = go (same_bytes (name_of b) source) (same_b
     go false u ih = ih
 
 module _ (s source target : List ℕ) (r : Next) (er : r ≡ first_of AddReads (source ∷ target ∷ []) s) where
-  pub read-yes : (start len : ℕ) (next : Cursor) → r ≡ Body start len next → true ≡ has_read (request_of s).add_reads source target
+  pub read_told : (q : Bool) → q ≡ is_some r → q ≡ has_read (request_of s).add_reads source target
   unfolding request_of
-  read-yes start len next e = found-yes AddReads (source ∷ target ∷ []) s r er start len next e ∙ sym (read_first source target (bodies AddReads s))
-
-  pub read_no : r ≡ Nothing → false ≡ has_read (request_of s).add_reads source target
-  unfolding request_of
-  read_no e = found-no AddReads (source ∷ target ∷ []) s r er e ∙ sym (read_first source target (bodies AddReads s))
+  read_told q e = found-told AddReads (source ∷ target ∷ []) s r er q e ∙ sym (read_first source target (bodies AddReads s))
 
 -- and an AE or AO
 pub grant-first : (source pkg target : List ℕ) (bs : List (List ℕ)) → has_grant (map grant_of bs) source pkg target ≡ is_found (first_body (source ∷ pkg ∷ target ∷ []) bs)
@@ -285,49 +279,41 @@ grant-first source pkg target (b ∷ bs) =
     go false u v ih = ih
 
 module _ (k : Kind) (s source pkg target : List ℕ) (r : Next) (er : r ≡ first_of k (source ∷ pkg ∷ target ∷ []) s) where
-  pub grant-yes : (start len : ℕ) (next : Cursor) → r ≡ Body start len next → true ≡ has_grant (map grant_of (bodies k s)) source pkg target
-  grant-yes start len next e = found-yes k (source ∷ pkg ∷ target ∷ []) s r er start len next e ∙ sym (grant-first source pkg target (bodies k s))
-
-  pub grant-no : r ≡ Nothing → false ≡ has_grant (map grant_of (bodies k s)) source pkg target
-  grant-no e = found-no k (source ∷ pkg ∷ target ∷ []) s r er e ∙ sym (grant-first source pkg target (bodies k s))
+  pub grant_told : (q : Bool) → q ≡ is_some r → q ≡ has_grant (map grant_of (bodies k s)) source pkg target
+  grant_told q e = found-told k (source ∷ pkg ∷ target ∷ []) s r er q e ∙ sym (grant-first source pkg target (bodies k s))
 
 -- ---- a set and a request
 
-inputs_are : (s q : List ℕ) → length q ≤ 65535 → check_inputs s q ≡ then_request (check_set s) (check_set s).answer (check_records Request q)
-unfolding check_inputs check_set refused then_request
+inputs_are : (s q : List ℕ) → length q ≤ 65535 → check_inputs s q ≡ then_request (check_set s) (check_records Request q)
+unfolding check_inputs check_set then_request
 inputs_are s q l = rw (le-ltb 65535 (length q) l) (go (ltb 65535 (length s)) refl)
   where
     go : (b : Bool) → ltb 65535 (length s) ≡ b
-        → pick_checked (ltb 65535 (length s) || false) (refused (TooLarge 0)) (then_request (check_set s) (check_set s).answer (check_records Request q)) ≡ then_request (check_set s) (check_set s).answer (check_records Request q)
+        → pick_checked (ltb 65535 (length s) || false) (Err (TooLarge 0)) (then_request (check_set s) (check_records Request q)) ≡ then_request (check_set s) (check_records Request q)
     go true e = rw e
     go false e = rw e
 
-module _ (s q : List ℕ) where
-  pub inputs_long : (r : Checked) → 65535 < length q → r ≡ refused (TooLarge 0) → r ≡ check_inputs s q
+module _ (s q : List ℕ) (r : SetAnswer) where
+  pub inputs_long : 65535 < length q → r ≡ Err (TooLarge 0) → r ≡ check_inputs s q
   unfolding check_inputs
-  inputs_long r l e = e ∙ sym (go (ltb 65535 (length s)))
+  inputs_long l e = e ∙ sym (go (ltb 65535 (length s)))
     where
-      go : (b : Bool) → pick_checked (b || ltb 65535 (length q)) (refused (TooLarge 0)) (then_request (check_set s) (check_set s).answer (check_records Request q)) ≡ refused (TooLarge 0)
+      go : (b : Bool) → pick_checked (b || ltb 65535 (length q)) (Err (TooLarge 0)) (then_request (check_set s) (check_records Request q)) ≡ Err (TooLarge 0)
       go true = refl
       go false = rw (lt-ltb 65535 (length q) l)
 
-  module _ (l : length q ≤ 65535) (c : Checked) (ec : c ≡ check_set s) where
-    pub inputs-set : (e : ModuleError) → c.answer ≡ Set.Refused e → c ≡ check_inputs s q
+  module _ (l : length q ≤ 65535) where
+    pub inputs-set : (e : ModuleError) → Err e ≡ check_set s → r ≡ Err e → r ≡ check_inputs s q
     unfolding then_request
-    inputs-set e h =
-        let w : (check_set s).answer ≡ Set.Refused e = sym (ap (λ (x : Checked). x.answer) ec) ∙ h in
-        ec ∙ sym (inputs_are s q l ∙ rw w)
+    inputs-set e ee er = er ∙ sym (inputs_are s q l ∙ rw (← ee))
 
-    module _ (n : ℕ) (h : c.answer ≡ Modules n) (a : RecordsAnswer) (ea : a ≡ check_records Request q) where
-      w : (check_set s).answer ≡ Modules n
-      w = sym (ap (λ (x : Checked). x.answer) ec) ∙ h
-
-      pub inputs-good : a ≡ Good → c ≡ check_inputs s q
+    module _ (c : Checked) (ec : Ok c ≡ check_set s) where
+      pub inputs-good : (u : Unit {0}) → Ok u ≡ check_records Request q → r ≡ Ok c → r ≡ check_inputs s q
       unfolding then_request
-      inputs-good g = ec ∙ sym (inputs_are s q l ∙ rw (w, ← ea, g))
+      inputs-good u eu er = er ∙ sym (inputs_are s q l ∙ rw (← ec, ← eu))
 
-      pub inputs-refused : (e : ModuleError) (r : Checked) → a ≡ Refused e → r ≡ refused e → r ≡ check_inputs s q
+      pub inputs-refused : (e : ModuleError) → Err e ≡ check_records Request q → r ≡ Err e → r ≡ check_inputs s q
       unfolding then_request
-      inputs-refused e r g f = f ∙ sym (inputs_are s q l ∙ rw (w, ← ea, g))
+      inputs-refused e ee er = er ∙ sym (inputs_are s q l ∙ rw (← ec, ← ee))
 
-pub ruleset inputs-laws = (inputs_long, inputs-set, inputs-good, inputs-refused, check-none)
+pub ruleset inputs_laws = (inputs_long, inputs-set, inputs-good, inputs-refused, check-none)

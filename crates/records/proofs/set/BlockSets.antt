@@ -16,13 +16,13 @@ use Rattle.records.specs.Descriptor.{module_name, descriptor_of}
 use Rattle.records.specs.Set.{Passed, none_yet, with_module, with_main, name_at, accepted, check_from, check_set, up_to_next, blocks_of, blocks, module_limit}
 use Rattle.records.specs.Places.{has_place, names_in, distinct}
 use Rattle.records.specs.declared.record.Kind.TheVariants.{Module, MainClass}
-use Rattle.records.specs.declared.set.SetAnswer.TheVariants.{Modules}
 use Rattle.records.proofs.Logic.{and_left, and_right, or_left, or_right}
 use Rattle.records.proofs.bytes.Laws.{same_refl}
 use Rattle.records.proofs.name.Lists.{not_same, mem-not-last}
 use Rattle.records.proofs.record.Laws.{IsRecord, record_first, first-whole, first-front}
 use Rattle.records.proofs.set.Blocks.{block-name}
 use Rattle.records.proofs.set.Steps.{is_inner, Begins, begins, belongs, mains, enters, name-here, Walk, end, on, takes, step-goes, module_is, module_no_place, place_is, place-no_module, inner-no_module, inner-no-place, main-no_module, main-no-place}
+use Rattle.std.specs.Prelude.{Ok}
 
 -- ---- a block of such a set
 
@@ -73,7 +73,7 @@ each-good (on {r = r} c (belongs b) w) x m = each-good w x (rw (inner-no_module 
 each-good (on {r = r} c (mains b) w) x m = each-good w x (rw (main-no_module r b.kind) at m)
 each-good (on {r = r} c (enters b) w) x m = each-good w x (rw (place-no_module r b.kind) at m)
 
-pub good-block : (s : List ℕ) (n : ℕ) (t : List ℕ) → check_set s ≡ record { answer = Modules n; starts = t } → (b : List ℕ) → Memᴰ b (blocks s) → GoodBlock b
+pub good-block : (s : List ℕ) (n : ℕ) (t : List ℕ) → check_set s ≡ Ok (record { count = n; starts = t }) → (b : List ℕ) → Memᴰ b (blocks s) → GoodBlock b
 unfolding blocks
 good-block s n t e b m = each-good (takes s n t e).walk b m
 

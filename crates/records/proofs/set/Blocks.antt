@@ -17,11 +17,11 @@ use Rattle.records.specs.Descriptor.{Descriptor, module_name, header_of, descrip
 use Rattle.records.specs.Set.{Passed, name_at, table_of, check_set, up_to_next, blocks_of, blocks, block_at, modules, module_limit}
 use Rattle.records.specs.declared.record.Kind.{Kind}
 use Rattle.records.specs.declared.record.Kind.TheVariants.{Module, Requires, Exports, Opens, Uses, Provides, Package, MainClass, Place}
-use Rattle.records.specs.declared.set.SetAnswer.TheVariants.{Modules}
 use Rattle.records.proofs.Logic.{clash, by, true≠false}
 use Rattle.records.proofs.record.Laws.{IsRecord, front_record, record_first, records-cons, records-none, records-ind}
 use Rattle.records.proofs.set.Steps.{begins, belongs, mains, enters, name-here, Walk, end, on, takes, module_is, place_is, place-no_module, inner-no_module, inner-no-place, main-no_module, main-no-place}
 use Rattle.records.proofs.set.Table.{starts_from, starts_of, are_named, is_named, Taken, taken}
+use Rattle.std.specs.Prelude.{Ok}
 
 -- ---- the records up to the next MO, PL and all: what the table gives
 
@@ -248,7 +248,7 @@ pub record GoodSet (s : List ℕ) (n : ℕ) (t : List ℕ) : Type 0 where
   pub names : map (name_at s) (take n t) ≡ map (λ (m : Descriptor). m.name) (modules s)
   pub named : mem_name all_unnamed (map (λ (m : Descriptor). m.name) (modules s)) ≡ false
 
-pub good-set : (s : List ℕ) (n : ℕ) (t : List ℕ) → check_set s ≡ record { answer = Modules n; starts = t } → GoodSet s n t
+pub good-set : (s : List ℕ) (n : ℕ) (t : List ℕ) → check_set s ≡ Ok (record { count = n; starts = t }) → GoodSet s n t
 unfolding starts_of table_of blocks modules
 good-set s n t e = record {
   short = k.short;

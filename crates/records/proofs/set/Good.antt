@@ -9,10 +9,10 @@ use borrow.Author.Tests.{eqb-true}
 use Rattle.records.specs.Record.{mark_of, body_of, set_kind, is_body, mark_for, is_of, bodies_in, bodies}
 use Rattle.records.specs.Set.{check_set, blocks}
 use Rattle.records.specs.declared.record.Kind.TheVariants.{Module, Requires, MainClass}
-use Rattle.records.specs.declared.set.SetAnswer.TheVariants.{Modules}
 use Rattle.records.proofs.Logic.{clash}
 use Rattle.records.proofs.record.Marks.{of-kind}
 use Rattle.records.proofs.set.BlockSets.{Follows, none, inner, main, GoodBlock, good-block, block-alone}
+use Rattle.std.specs.Prelude.{Ok}
 
 -- among the records behind an MO
 follows-requires : {m : Bool} {rs : List (List ℕ)} → Follows m rs → (b : List ℕ) → Memᴰ b (bodies_in Requires rs) → is_body Requires b ≡ true
@@ -29,7 +29,7 @@ follows-requires (inner {r = r} {rs = rs} o k g f) b h = go (is_of Requires r) r
     go false ec below m = below m
 follows-requires (main {r = r} o k g f) b h = follows-requires f b (rw (of-kind r MainClass Requires (λ e. clash (cc)) k) at h)
 
-pub good-requires : (s : List ℕ) (n : ℕ) (t : List ℕ) → check_set s ≡ record { answer = Modules n; starts = t }
+pub good-requires : (s : List ℕ) (n : ℕ) (t : List ℕ) → check_set s ≡ Ok (record { count = n; starts = t })
     → (b : List ℕ) → Memᴰ b (blocks s) → (x : List ℕ) → Memᴰ x (bodies Requires b) → is_body Requires x ≡ true
 unfolding bodies bodies_in mark_for
 good-requires s n t e b m x k =

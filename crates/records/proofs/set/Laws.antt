@@ -7,7 +7,7 @@ use native.Mathlib.Omega.{arith}
 use native.Mathlib.Numerals.{add-one}
 use lib.ListN.{length, get_or, take, drop, set, replicate, length-set, length-drop, get_or-eq_default}
 use lib.Seq.{length-take-le, take-suc-set, take-set-le, take-add, drop-drop, drop-set-add, set_at, append_snoc}
-use lib.Dec.{ltb, leb}
+use lib.Dec.{leb}
 use borrow.Author.Tests.{eq-eqb, ne_eqb, lt-ltb, le-ltb, le-leb, lt-leb, leb-false}
 use types.Run.{OneOf, miss}
 use denote.Enum.Declared.{tag_of}
@@ -16,62 +16,30 @@ use Rattle.records.specs.Name.{all_unnamed, name_of, mem_name}
 use Rattle.records.specs.Record.{records, step_at, set_kind, is_body}
 use Rattle.records.specs.Descriptor.{module_name}
 use Rattle.records.specs.Finder.{find_name}
-use Rattle.records.specs.Set.{Passed, here_of, passed_of, name_at, is_placed, admit_at, enter_at, places_at, pass_at, judge_at, pick_verdict, table_of, refused, accepted, go_on, check_from, check_set, block_at, body_at, module_limit, starts_length}
+use Rattle.records.specs.Set.{Passed, here_of, passed_of, name_at, is_placed, admit_at, enter_at, places_at, pass_at, judge_at, pick_verdict, table_of, accepted, go_on, check_from, check_set, block_at, body_at, module_limit, starts_length}
 use Rattle.records.specs.Sorted.{Indexed, Added, leaves, Kept, IndexedSet}
 use Rattle.records.specs.declared.record.Cursor.{Cursor}
 use Rattle.records.specs.declared.record.Step.{Step}
 use Rattle.records.specs.declared.record.Step.TheVariants.{Record, Bad, End}
 use Rattle.records.specs.declared.record.Kind.{Kind}
 use Rattle.records.specs.declared.record.Kind.TheVariants.{Module, Requires, Exports, Opens, Uses, Provides, Package, MainClass, Place, Root, LimitModules, AddReads, AddExports, AddOpens, Static, Other}
-use Rattle.records.specs.declared.finder.Found.{Found}
-use Rattle.records.specs.declared.finder.Found.TheVariants.{At, Nothing}
+use Rattle.records.specs.Finder.{Found}
 use Rattle.records.specs.declared.error.Input.TheVariants.{Set}
 use Rattle.records.specs.declared.error.ModuleError.{ModuleError}
 use Rattle.records.specs.declared.error.ModuleError.TheVariants.{Malformed, TooLarge, Repeated}
+use Rattle.records.specs.Set.{VerdictAnswer}
 use Rattle.records.specs.declared.set.Verdict.{Verdict}
-use Rattle.records.specs.declared.set.Verdict.TheVariants.{Stop, Start, Main, Enter, Pass}
-use Rattle.records.specs.declared.set.SetAnswer.TheVariants.{Modules, Refused}
-use Rattle.records.specs.declared.set.Checked.{Checked}
+use Rattle.records.specs.declared.set.Verdict.TheVariants.{Start, Main, Enter, Pass}
+use Rattle.records.specs.Set.{SetAnswer}
 use Rattle.records.specs.declared.set.Seen.{Seen}
 use Rattle.records.proofs.Logic.{clash, true≠false, neither_right}
 use Rattle.records.proofs.bytes.Laws.{tail_none, tail-some}
 use Rattle.records.specs.contracts.record.Kind.{the_type}
 use Rattle.records.proofs.record.Laws.{Stepped, stepped, stepped-bad, stepped-end, stepped_in, records-next, front-mark, front-body, front_length, records-none, records-end}
 use Rattle.records.proofs.finder.Laws.{found_in_lem, found-not}
+use Rattle.std.specs.Prelude.{Some, None, Ok, Err}
 
 -- ---- one record
-
-pub placed-told : (count : ℕ) (main : Bool) (k k' : Kind) (r : Bool) → k ≡ k' → r ≡ is_placed count main k' → r ≡ is_placed count main k
-placed-told count main k k' r e er = cc
-
-pub placed-twice : (count : ℕ) (main : Bool) (k : Kind) → k ≡ MainClass → main ≡ true → false ≡ is_placed count main k
-unfolding is_placed
-placed-twice count main k e m = cc
-
-pub placed-main : (count : ℕ) (main : Bool) (k : Kind) → k ≡ MainClass → main ≡ false → ltb 0 count ≡ is_placed count main k
-unfolding is_placed
-placed-main count main k e m = cc
-
-pub placed-other : (count : ℕ) (main : Bool) (k : Kind) → OneOf (1 ∷ 2 ∷ 3 ∷ 4 ∷ 5 ∷ 6 ∷ []) (tag_of the_type k) → ltb 0 count ≡ is_placed count main k
-unfolding is_placed
-placed-other count main Module h = absurd (miss (1 ∷ 2 ∷ 3 ∷ 4 ∷ 5 ∷ 6 ∷ []) 0 tt h)
-placed-other count main Requires h = refl
-placed-other count main Exports h = refl
-placed-other count main Opens h = refl
-placed-other count main Uses h = refl
-placed-other count main Provides h = refl
-placed-other count main Package h = refl
-placed-other count main MainClass h = absurd (miss (1 ∷ 2 ∷ 3 ∷ 4 ∷ 5 ∷ 6 ∷ []) 7 tt h)
-placed-other count main Place h = absurd (miss (1 ∷ 2 ∷ 3 ∷ 4 ∷ 5 ∷ 6 ∷ []) 8 tt h)
-placed-other count main Root h = absurd (miss (1 ∷ 2 ∷ 3 ∷ 4 ∷ 5 ∷ 6 ∷ []) 9 tt h)
-placed-other count main LimitModules h = absurd (miss (1 ∷ 2 ∷ 3 ∷ 4 ∷ 5 ∷ 6 ∷ []) 10 tt h)
-placed-other count main AddReads h = absurd (miss (1 ∷ 2 ∷ 3 ∷ 4 ∷ 5 ∷ 6 ∷ []) 11 tt h)
-placed-other count main AddExports h = absurd (miss (1 ∷ 2 ∷ 3 ∷ 4 ∷ 5 ∷ 6 ∷ []) 12 tt h)
-placed-other count main AddOpens h = absurd (miss (1 ∷ 2 ∷ 3 ∷ 4 ∷ 5 ∷ 6 ∷ []) 13 tt h)
-placed-other count main Static h = absurd (miss (1 ∷ 2 ∷ 3 ∷ 4 ∷ 5 ∷ 6 ∷ []) 14 tt h)
-placed-other count main Other h = absurd (miss (1 ∷ 2 ∷ 3 ∷ 4 ∷ 5 ∷ 6 ∷ []) 15 tt h)
-
-pub ruleset placed-laws = (placed-told, placed-twice, placed-main, placed-other)
 
 pub later-none : (t : List ℕ) (n : ℕ) → length t < n → [] ≡ drop n t
 later-none t n h = tail_none t n h
@@ -79,7 +47,7 @@ later-none t n h = tail_none t n h
 pub later-some : (t : List ℕ) (n : ℕ) → take (length t - n) (drop n t) ≡ drop n t
 later-some t n = tail-some t n
 
-pub ruleset later-laws = (later-none, later-some)
+pub ruleset later_laws = (later-none, later-some)
 
 -- the modules of the present place, by the table
 module _ (t : List ℕ) (n : Seen) (parted : n.first ≤ n.count) (few : n.count ≤ length t) where
@@ -104,28 +72,28 @@ here-none s t n x p e =
 -- what a verdict leaves of the index
 
 module _ (names : List (List ℕ)) (name index : List ℕ) where
-  pub kept-stop : (index' : List ℕ) (e : ModuleError) → Kept names name index index' (Stop e)
+  pub kept-stop : (index' : List ℕ) (e : ModuleError) → Kept names name index index' (Err e)
   unfolding leaves
   kept-stop index' e = record { start = λ q. clash (cc); other = λ q. true≠false q refl }
 
-  pub kept-start : (index' : List ℕ) → Indexed (names ++ (name ∷ [])) index' → Kept names name index index' Start
+  pub kept-start : (index' : List ℕ) → Indexed (names ++ (name ∷ [])) index' → Kept names name index index' (Ok Start)
   unfolding leaves
   kept-start index' x = record { start = λ q. x; other = λ q. true≠false q refl }
 
-  pub kept-main : Kept names name index index Main
+  pub kept-main : Kept names name index index (Ok Main)
   kept-main = record { start = λ q. clash (cc); other = λ q. refl }
 
-  pub kept-enter : Kept names name index index Enter
+  pub kept-enter : Kept names name index index (Ok Enter)
   kept-enter = record { start = λ q. clash (cc); other = λ q. refl }
 
-  pub kept-pass : Kept names name index index Pass
+  pub kept-pass : Kept names name index index (Ok Pass)
   kept-pass = record { start = λ q. clash (cc); other = λ q. refl }
 
 module _ (s t : List ℕ) (n : Seen) (at : ℕ) (b : List ℕ) (few : n.count ≤ length t) where
   counted : length (take n.count t) ≡ n.count
   counted = length-take-le n.count t few
 
-  pub admit_full : module_limit ≤ n.count → Stop (TooLarge at) ≡ admit_at s (passed_of t n) at b
+  pub admit_full : module_limit ≤ n.count → Err (TooLarge at) ≡ admit_at s (passed_of t n) at b
   unfolding admit_at
   admit_full l = rw (counted, le-leb module_limit n.count l)
 
@@ -137,38 +105,38 @@ module _ (s t : List ℕ) (n : Seen) (at : ℕ) (b : List ℕ) (few : n.count �
     unfolding module_name
     named = cc
 
-    pub admit_unnamed : r ≡ true → Stop (Repeated at) ≡ admit_at s (passed_of t n) at b
+    pub admit_unnamed : r ≡ true → Err (Repeated at) ≡ admit_at s (passed_of t n) at b
     unfolding admit_at
     admit_unnamed e = sym (rw (room, ← named, ← er, e))
 
     -- a new name
-    pub admit_added : (p : n.first ≤ n.count) (index' : List ℕ) (a : Bool) → r ≡ false → Added (map (name_at s) (take n.count t)) m index' a → a ≡ true → Start ≡ admit_at s (passed_of t n) at b
+    pub admit_added : (p : n.first ≤ n.count) (index' : List ℕ) (a : Bool) → r ≡ false → Added (map (name_at s) (take n.count t)) m index' a → a ≡ true → (Ok Start) ≡ admit_at s (passed_of t n) at b
     unfolding admit_at
     admit_added p index' a e x f = sym (rw (room, ← named, ← er, e, here-none s t n m p (x.new f)))
 
-    pub admit_kept : (index index' : List ℕ) (a : Bool) → Added (map (name_at s) (take n.count t)) m index' a → Kept (map (name_at s) (take n.count t)) (module_name b) index index' Start
+    pub admit_kept : (index index' : List ℕ) (a : Bool) → Added (map (name_at s) (take n.count t)) m index' a → Kept (map (name_at s) (take n.count t)) (module_name b) index index' (Ok Start)
     admit_kept index index' a x = kept-start (map (name_at s) (take n.count t)) (module_name b) index index' (rw (← named) x.indexed)
 
     module _ (e : r ≡ false) (h : List ℕ) (eh : h ≡ drop n.first t) (f : Found) (ef : f ≡ find_name (map (name_at s) (take (n.count - n.first) h)) m 0) where
       looked : (g : Found) → f ≡ g → find_name (map (name_at s) (here_of t n)) m 0 ≡ g
       looked g eg = rw (← eh) (sym ef ∙ eg)
 
-      pub admit_twice : (j : ℕ) → f ≡ At j → Stop (Repeated at) ≡ admit_at s (passed_of t n) at b
+      pub admit_twice : (j : ℕ) → f ≡ Some j → Err (Repeated at) ≡ admit_at s (passed_of t n) at b
       unfolding admit_at
-      admit_twice j fj = sym (rw (room, ← named, ← er, e, found_in_lem (map (name_at s) (here_of t n)) m 0 j (looked (At j) fj)))
+      admit_twice j fj = sym (rw (room, ← named, ← er, e, found_in_lem (map (name_at s) (here_of t n)) m 0 j (looked (Some j) fj)))
 
-      pub admit_new : f ≡ Nothing → Start ≡ admit_at s (passed_of t n) at b
+      pub admit_new : f ≡ None → (Ok Start) ≡ admit_at s (passed_of t n) at b
       unfolding admit_at
-      admit_new fn = sym (rw (room, ← named, ← er, e, found-not (map (name_at s) (here_of t n)) m 0 (looked Nothing fn)))
+      admit_new fn = sym (rw (room, ← named, ← er, e, found-not (map (name_at s) (here_of t n)) m 0 (looked None fn)))
 
 pub ruleset admit_laws = (admit_full, admit_unnamed, admit_added, admit_kept, admit_twice, admit_new, kept-stop)
 
 module _ (s : List ℕ) (p : Passed) (at : ℕ) (k : Kind) (b : List ℕ) where
-  pub pass_module : (r : Verdict) → k ≡ Module → r ≡ admit_at s p at b → r ≡ pass_at s p at k b
+  pub pass_module : (r : VerdictAnswer) → k ≡ Module → r ≡ admit_at s p at b → r ≡ pass_at s p at k b
   unfolding pass_at
   pass_module r e er = cc
 
-  pub pass-main : k ≡ MainClass → Main ≡ pass_at s p at k b
+  pub pass-main : k ≡ MainClass → (Ok Main) ≡ pass_at s p at k b
   unfolding pass_at
   pass-main e = cc
 
@@ -176,11 +144,11 @@ module _ (s : List ℕ) (p : Passed) (at : ℕ) (k : Kind) (b : List ℕ) where
   unfolding pass_at
   place_is e = cc
 
-  pub pass-ninth : k ≡ Place → 8 ≤ p.places → Stop (TooLarge at) ≡ pass_at s p at k b
+  pub pass-ninth : k ≡ Place → 8 ≤ p.places → Err (TooLarge at) ≡ pass_at s p at k b
   unfolding enter_at
   pass-ninth e l = sym (place_is e ∙ rw (le-leb 8 p.places l))
 
-  pub pass-place : k ≡ Place → p.places < 8 → Enter ≡ pass_at s p at k b
+  pub pass-place : k ≡ Place → p.places < 8 → (Ok Enter) ≡ pass_at s p at k b
   unfolding enter_at
   pass-place e l = sym (place_is e ∙ rw (lt-leb 8 p.places l))
 
@@ -188,7 +156,7 @@ module _ (s : List ℕ) (p : Passed) (at : ℕ) (k : Kind) (b : List ℕ) where
 abbrev inner : List ℕ
 inner = 1 ∷ 2 ∷ 3 ∷ 4 ∷ 5 ∷ 6 ∷ 9 ∷ 10 ∷ 11 ∷ 12 ∷ 13 ∷ 14 ∷ 15 ∷ []
 
-pub pass-other : (s : List ℕ) (p : Passed) (at : ℕ) (k : Kind) (b : List ℕ) → OneOf inner (tag_of the_type k) → Pass ≡ pass_at s p at k b
+pub pass-other : (s : List ℕ) (p : Passed) (at : ℕ) (k : Kind) (b : List ℕ) → OneOf inner (tag_of the_type k) → (Ok Pass) ≡ pass_at s p at k b
 unfolding pass_at
 pass-other s p at Module b h = absurd (miss inner 0 tt h)
 pass-other s p at Requires b h = refl
@@ -207,35 +175,31 @@ pass-other s p at AddOpens b h = refl
 pass-other s p at Static b h = refl
 pass-other s p at Other b h = refl
 
-pub ruleset pass-laws = (pass_module, pass-main, pass-ninth, pass-place, pass-other, kept-stop, kept-main, kept-enter, kept-pass)
+pub ruleset pass_laws = (pass_module, pass-main, pass-ninth, pass-place, pass-other, kept-stop, kept-main, kept-enter, kept-pass)
 
-module _ (s t : List ℕ) (n : Seen) (at mark start len : ℕ) (parted : n.first ≤ n.count) (few : n.count ≤ length t)
-    (k : Kind) (ek : k ≡ set_kind mark) (b : List ℕ) (eb : b ≡ take len (drop start s)) (p : Bool) (ep : p ≡ is_placed (n.count - n.first) n.main k) where
+module _ (s t : List ℕ) (n : Seen) (at : ℕ) (parted : n.first ≤ n.count) (few : n.count ≤ length t)
+    (k : Kind) (b : List ℕ) (p : Bool) (ep : p ≡ is_placed (n.count - n.first) n.main k) where
   placed : is_placed (length (here_of t n)) n.main k ≡ p
   placed = rw (here-long t n parted few) (sym ep)
 
-  pub judge_out : p ≡ false → Stop (Malformed Set at) ≡ judge_at s (passed_of t n) at (set_kind mark) (take len (drop start s))
+  pub judge_out : p ≡ false → Err (Malformed Set at) ≡ judge_at s (passed_of t n) at k b
   unfolding judge_at
-  judge_out e = sym (rw (← ek, ← eb, placed, e))
+  judge_out e = sym (rw (placed, e))
 
-  pub judge_bad : (q : Bool) → p ≡ true → q ≡ is_body k b → q ≡ false → Stop (Malformed Set at) ≡ judge_at s (passed_of t n) at (set_kind mark) (take len (drop start s))
+  pub judge_bad : (q : Bool) → p ≡ true → q ≡ is_body k b → q ≡ false → Err (Malformed Set at) ≡ judge_at s (passed_of t n) at k b
   unfolding judge_at
-  judge_bad q e eq f = sym (rw (← ek, ← eb, placed, e, ← eq, f))
+  judge_bad q e eq f = sym (rw (placed, e, ← eq, f))
 
-  pub judge_pass : (q : Bool) (r : Verdict) → p ≡ true → q ≡ is_body k b → q ≡ true → r ≡ pass_at s (passed_of t n) at k b → r ≡ judge_at s (passed_of t n) at (set_kind mark) (take len (drop start s))
+  pub judge_pass : (q : Bool) (r : VerdictAnswer) → p ≡ true → q ≡ is_body k b → q ≡ true → r ≡ pass_at s (passed_of t n) at k b → r ≡ judge_at s (passed_of t n) at k b
   unfolding judge_at
-  judge_pass q r e eq f er = er ∙ sym (rw (← ek, ← eb, placed, e, ← eq, f))
+  judge_pass q r e eq f er = er ∙ sym (rw (placed, e, ← eq, f))
 
-pub judge_kept : (s b : List ℕ) (start len : ℕ) (names : List (List ℕ)) (index index' : List ℕ) (r : Verdict) → b ≡ take len (drop start s)
-    → Kept names (module_name b) index index' r → Kept names (module_name (take len (drop start s))) index index' r
-judge_kept s b start len names index index' r e x = rw (← e) x
-
-pub ruleset judge_laws = (judge_out, judge_bad, judge_pass, judge_kept, kept-stop)
+pub ruleset judge_laws = (judge_out, judge_bad, judge_pass, kept-stop)
 
 -- ---- a block by the table
 
-pub entry-none : (t : List ℕ) (i : ℕ) → length t ≤ i → 0 ≡ get_or t i 0
-entry-none t i h = sym (get_or-eq_default t 0 h)
+pub entry_none : (t : List ℕ) (i : ℕ) → length t ≤ i → 0 ≡ get_or t i 0
+entry_none t i h = sym (get_or-eq_default t 0 h)
 
 nothing : (s : List ℕ) (n m : ℕ) → m ≤ n → [] ≡ take (m - n) (drop n s)
 nothing s n m l = let e : m - n ≡ 0 = omega arith in sym (rw e)
@@ -243,7 +207,7 @@ nothing s n m l = let e : m - n ≡ 0 = omega arith in sym (rw e)
 module _ (s t : List ℕ) (i : ℕ) where
   pub block_none : length t ≤ i → [] ≡ block_at s t i
   unfolding block_at
-  block_none h = let e : 0 ≡ get_or t (i + 1) 0 = entry-none t (i + 1) (omega arith) in nothing s (get_or t i 0) (get_or t (i + 1) 0) (omega arith)
+  block_none h = let e : 0 ≡ get_or t (i + 1) 0 = entry_none t (i + 1) (omega arith) in nothing s (get_or t i 0) (get_or t (i + 1) 0) (omega arith)
 
   pub block-turned : (to : ℕ) → to ≡ get_or t (i + 1) 0 → to < get_or t i 0 → [] ≡ block_at s t i
   unfolding block_at
@@ -253,11 +217,7 @@ module _ (s t : List ℕ) (i : ℕ) where
   unfolding block_at
   block_is to r e er = er ∙ rw e
 
-pub ruleset block-laws = (block_none, block-turned, block_is)
-
-pub refused-is : (e : ModuleError) → record { answer = Refused e; starts = replicate starts_length 0 } ≡ refused e
-unfolding refused
-refused-is e = refl
+pub ruleset block_laws = (block_none, block-turned, block_is)
 
 -- ---- the whole set
 
@@ -274,7 +234,7 @@ pub record CheckAt (s : List ℕ) (at : ℕ) (t index : List ℕ) (n : Seen) : T
   pub by : Indexed (map (name_at s) (take n.count t)) index
   pub left : check_set s ≡ check_from s (passed_of t n) at (records (drop at s))
 
-pub check-long : (s : List ℕ) (r : Checked) → 65535 < length s → r ≡ refused (TooLarge 0) → r ≡ check_set s
+pub check-long : (s : List ℕ) (r : SetAnswer) → 65535 < length s → r ≡ Err (TooLarge 0) → r ≡ check_set s
 unfolding check_set
 check-long s r l e = e ∙ sym (rw (lt-ltb 65535 (length s) l))
 
@@ -292,26 +252,26 @@ check-start s index l x = record {
   left = rw (le-ltb 65535 (length s) l);
 }
 
-admit_room : (s : List ℕ) (p : Passed) (at : ℕ) (b : List ℕ) → admit_at s p at b ≡ Start → length p.starts < module_limit
+admit_room : (s : List ℕ) (p : Passed) (at : ℕ) (b : List ℕ) → admit_at s p at b ≡ (Ok Start) → length p.starts < module_limit
 unfolding admit_at
 admit_room s p at b e = go (leb module_limit (length p.starts)) refl e
   where
-    rest : Verdict
-    rest = pick_verdict (same_bytes (module_name b) all_unnamed || mem_name (module_name b) (map (name_at s) p.here)) (Stop (Repeated at)) Start
+    rest : VerdictAnswer
+    rest = pick_verdict (same_bytes (module_name b) all_unnamed || mem_name (module_name b) (map (name_at s) p.here)) (Err (Repeated at)) (Ok Start)
 
-    go : (c : Bool) → leb module_limit (length p.starts) ≡ c → pick_verdict c (Stop (TooLarge at)) rest ≡ Start → length p.starts < module_limit
+    go : (c : Bool) → leb module_limit (length p.starts) ≡ c → pick_verdict c (Err (TooLarge at)) rest ≡ (Ok Start) → length p.starts < module_limit
     go true ec h = clash (cc)
     go false ec h = leb-false module_limit (length p.starts) ec
 
-enter-not : (p : Passed) (at : ℕ) → enter_at p at ≡ Start → ⊥
+enter-not : (p : Passed) (at : ℕ) → enter_at p at ≡ (Ok Start) → ⊥
 unfolding enter_at
 enter-not p at e = go (leb 8 p.places) e
   where
-    go : (c : Bool) → pick_verdict c (Stop (TooLarge at)) Enter ≡ Start → ⊥
+    go : (c : Bool) → pick_verdict c (Err (TooLarge at)) (Ok Enter) ≡ (Ok Start) → ⊥
     go true h = clash (cc)
     go false h = clash (cc)
 
-passed-room : (s : List ℕ) (p : Passed) (at : ℕ) (k : Kind) (b : List ℕ) → pass_at s p at k b ≡ Start → length p.starts < module_limit
+passed-room : (s : List ℕ) (p : Passed) (at : ℕ) (k : Kind) (b : List ℕ) → pass_at s p at k b ≡ (Ok Start) → length p.starts < module_limit
 unfolding pass_at
 passed-room s p at Module b e = admit_room s p at b e
 passed-room s p at Requires b e = clash (cc)
@@ -331,11 +291,11 @@ passed-room s p at Static b e = clash (cc)
 passed-room s p at Other b e = clash (cc)
 
 -- a Start is given only where the table has room
-start-room : (s : List ℕ) (p : Passed) (at : ℕ) (k : Kind) (b : List ℕ) → judge_at s p at k b ≡ Start → length p.starts < module_limit
+start-room : (s : List ℕ) (p : Passed) (at : ℕ) (k : Kind) (b : List ℕ) → judge_at s p at k b ≡ (Ok Start) → length p.starts < module_limit
 unfolding judge_at
 start-room s p at k b e = go (is_placed (length p.here) p.main k && is_body k b) e
   where
-    go : (c : Bool) → pick_verdict c (pass_at s p at k b) (Stop (Malformed Set at)) ≡ Start → length p.starts < module_limit
+    go : (c : Bool) → pick_verdict c (pass_at s p at k b) (Err (Malformed Set at)) ≡ (Ok Start) → length p.starts < module_limit
     go true h = passed-room s p at k b h
     go false h = clash (cc)
 
@@ -364,8 +324,11 @@ module _ (s : List ℕ) (at : ℕ) (t index : List ℕ) (n : Seen) (h : CheckAt 
   pub check-fits : n.count < starts_length
   check-fits = omega (arith, h.few)
 
-  module _ (mark start len : ℕ) (next : Cursor) (er : step ≡ Record mark start len next)
-      (v : Verdict) (ev : v ≡ judge_at s (passed_of t n) at (set_kind mark) (take len (drop start s))) where
+  module _ (mark start len : ℕ) (next : Cursor) (er : step ≡ Record mark start len next) (k : Kind) (ek : k ≡ set_kind mark) (b : List ℕ) (eb : b ≡ take len (drop start s))
+      (v : VerdictAnswer) (judged : v ≡ judge_at s (passed_of t n) at k b) where
+    ev : v ≡ judge_at s (passed_of t n) at (set_kind mark) (take len (drop start s))
+    ev = judged ∙ rw (ek, eb)
+
     p : Stepped s at mark start len next
     p = stepped s at step es mark start len next er
 
@@ -381,53 +344,55 @@ module _ (s : List ℕ) (at : ℕ) (t index : List ℕ) (n : Seen) (h : CheckAt 
     more : n.places + 1 ≤ next.at + 1
     more = omega (arith, p.next_is, h.begun)
 
-    pub check-stop : (e : ModuleError) (r : Checked) → v ≡ Stop e → r ≡ refused e → r ≡ check_set s
+    pub check-stop : (e : ModuleError) → v ≡ Err e → Err e ≡ check_set s
     unfolding go_on
-    check-stop e r f g = g ∙ sym (turn ∙ rw f)
+    check-stop e f = sym (turn ∙ rw f)
 
     -- what the index is after it
-    module _ (index' : List ℕ) (kp : Kept (map (name_at s) (take n.count t)) (module_name (take len (drop start s))) index index' v) where
+    module _ (index' : List ℕ) (kp : Kept (map (name_at s) (take n.count t)) (module_name b) index index' v) where
       kept_by : leaves v ≡ true → Indexed (map (name_at s) (take n.count t)) index'
       kept_by e = rw (kp.other e) h.by
 
-      pub check-main : v ≡ Main → CheckAt s next.at t index' (record { count = n.count; first = n.first; places = n.places; main = true })
+      pub check-main : (x : Verdict) → v ≡ Ok x → x ≡ Main → CheckAt s next.at t index' (record { count = n.count; first = n.first; places = n.places; main = true })
       unfolding go_on leaves
-      check-main f = record { within = inside; short = h.short; few = h.few; parted = h.parted; begun = omega (arith, more); zeros = h.zeros; long = h.long; by = kept_by (rw f); left = turn ∙ rw f }
+      check-main x e g = let f : v ≡ Ok Main = e ∙ ap Ok g in record { within = inside; short = h.short; few = h.few; parted = h.parted; begun = omega (arith, more); zeros = h.zeros; long = h.long; by = kept_by (rw f); left = turn ∙ rw f }
 
-      pub check-pass : v ≡ Pass → CheckAt s next.at t index' n
+      pub check-pass : (x : Verdict) → v ≡ Ok x → x ≡ Pass → CheckAt s next.at t index' n
       unfolding go_on leaves
-      check-pass f = record { within = inside; short = h.short; few = h.few; parted = h.parted; begun = omega (arith, more); zeros = h.zeros; long = h.long; by = kept_by (rw f); left = turn ∙ rw f }
+      check-pass x e g = let f : v ≡ Ok Pass = e ∙ ap Ok g in record { within = inside; short = h.short; few = h.few; parted = h.parted; begun = omega (arith, more); zeros = h.zeros; long = h.long; by = kept_by (rw f); left = turn ∙ rw f }
 
     -- a place begins: it has no module yet
     nobody : n.count - n.count ≡ 0
     nobody = omega arith
 
-    module _ (index' : List ℕ) (kp : Kept (map (name_at s) (take n.count t)) (module_name (take len (drop start s))) index index' v) where
-      pub check-first : v ≡ Enter → at ≤ 0 → CheckAt s next.at t index' (record { count = n.count; first = n.count; places = n.places; main = n.main })
+    module _ (index' : List ℕ) (kp : Kept (map (name_at s) (take n.count t)) (module_name b) index index' v) where
+      pub check-first : (x : Verdict) → v ≡ Ok x → x ≡ Enter → at ≤ 0 → CheckAt s next.at t index' (record { count = n.count; first = n.count; places = n.places; main = n.main })
       unfolding go_on places_at leaves
-      check-first f l = record { within = inside; short = h.short; few = h.few; parted = omega arith; begun = omega (arith, more); zeros = h.zeros; long = h.long; by = kept_by index' kp (rw f); left = turn ∙ rw (f, le-ltb 0 at l, nobody) }
+      check-first x e g l = let f : v ≡ Ok Enter = e ∙ ap Ok g in record { within = inside; short = h.short; few = h.few; parted = omega arith; begun = omega (arith, more); zeros = h.zeros; long = h.long; by = kept_by index' kp (rw f); left = turn ∙ rw (f, le-ltb 0 at l, nobody) }
 
-      pub check-enter : v ≡ Enter → 0 < at → CheckAt s next.at t index' (record { count = n.count; first = n.count; places = n.places + 1; main = n.main })
+      pub check-enter : (x : Verdict) → v ≡ Ok x → x ≡ Enter → 0 < at → CheckAt s next.at t index' (record { count = n.count; first = n.count; places = n.places + 1; main = n.main })
       unfolding go_on places_at leaves
-      check-enter f l = record { within = inside; short = h.short; few = h.few; parted = omega arith; begun = more; zeros = h.zeros; long = h.long; by = kept_by index' kp (rw f); left = turn ∙ rw (f, lt-ltb 0 at l, nobody) }
+      check-enter x e g l = let f : v ≡ Ok Enter = e ∙ ap Ok g in record { within = inside; short = h.short; few = h.few; parted = omega arith; begun = more; zeros = h.zeros; long = h.long; by = kept_by index' kp (rw f); left = turn ∙ rw (f, lt-ltb 0 at l, nobody) }
 
-    pub check-few : v ≡ Start → n.count < module_limit
-    check-few f =
+    pub check-few : (x : Verdict) → v ≡ Ok x → x ≡ Start → n.count < module_limit
+    check-few x e g =
+        let f : v ≡ Ok Start = e ∙ ap Ok g in
         let q : length (take n.count t) < module_limit = start-room s (passed_of t n) at (set_kind mark) (take len (drop start s)) (sym ev ∙ f) in
         omega (arith, q, length-take-le n.count t (omega (arith, h.few, h.long)))
 
-    pub check-start-fits : v ≡ Start → n.count + 1 ≤ module_limit
-    check-start-fits f = omega (arith, check-few f)
+    pub check-start-fits : (x : Verdict) → v ≡ Ok x → x ≡ Start → n.count + 1 ≤ module_limit
+    check-start-fits x e g = omega (arith, check-few x e g)
 
-    name-here : name_at s at ≡ module_name (take len (drop start s))
+    name-here : name_at s at ≡ module_name b
     unfolding name_at body_at
-    name-here = rw (p.len_is, p.start_is, drop-drop 4 at s)
+    name-here = rw (eb, p.len_is, p.start_is, drop-drop 4 at s)
 
-    pub check_module : (index' : List ℕ) → Kept (map (name_at s) (take n.count t)) (module_name (take len (drop start s))) index index' v → v ≡ Start
+    pub check_module : (index' : List ℕ) → Kept (map (name_at s) (take n.count t)) (module_name b) index index' v → (x : Verdict) → v ≡ Ok x → x ≡ Start
         → CheckAt s next.at (set t n.count at) index' (record { count = n.count + 1; first = n.first; places = n.places; main = false })
     unfolding go_on
-    check_module index' kp f =
-        let k : n.count < module_limit = check-few f in
+    check_module index' kp x y z =
+        let f : v ≡ Ok Start = y ∙ ap Ok z in
+        let k : n.count < module_limit = check-few x y z in
         let w : set t n.count at ≡ take n.count t ++ (at ∷ replicate (module_limit - n.count) 0) = table_more t n.count at (omega arith) h.long h.zeros in
         let q : take (n.count + 1) (set t n.count at) ≡ take n.count t ++ (at ∷ []) = rw add-one (take-suc-set t n.count at (omega (arith, h.long))) in
         let m : starts_length - (n.count + 1) ≡ module_limit - n.count = omega arith in
@@ -451,7 +416,7 @@ module _ (s : List ℕ) (at : ℕ) (t index : List ℕ) (n : Seen) (h : CheckAt 
     pub check-places : n.places + 1 ≤ 65536
     check-places = omega (arith, more, inside, h.short)
 
-  pub check-bad : (r : Checked) → step ≡ Bad → r ≡ refused (Malformed Set at) → r ≡ check_set s
+  pub check-bad : (r : SetAnswer) → step ≡ Bad → r ≡ Err (Malformed Set at) → r ≡ check_set s
   unfolding check_from
   check-bad r e g =
       g
@@ -466,10 +431,10 @@ module _ (s : List ℕ) (at : ℕ) (t index : List ℕ) (n : Seen) (h : CheckAt 
   check-by = h.by
 
   pub check-indexed : (x : ℕ) (index' : List ℕ) → Indexed (map (name_at s) (take n.count t)) index'
-      → IndexedSet s (record { answer = Modules n.count; starts = set t n.count x }) index'
-  check-indexed x index' y = record { names = λ c e. let q : n.count ≡ c = cc in rw (← q, take-set-le n.count t n.count x (omega arith)) y }
+      → IndexedSet s (Ok (record { count = n.count; starts = set t n.count x })) index'
+  check-indexed x index' y = record { names = λ c e. let q : record { count = n.count; starts = set t n.count x } ≡ c = cc in rw (← q, take-set-le n.count t n.count x (omega arith)) y }
 
-  pub check-end : step ≡ End → record { answer = Modules n.count; starts = set t n.count (length s) } ≡ check_set s
+  pub check-end : step ≡ End → Ok (record { count = n.count; starts = set t n.count (length s) }) ≡ check_set s
   unfolding check_from accepted table_of
   check-end e =
       let c : length (take n.count t) ≡ n.count = length-take-le n.count t (omega (arith, h.few, h.long)) in
@@ -484,8 +449,9 @@ module _ (s : List ℕ) (at : ℕ) (t index : List ℕ) (n : Seen) (h : CheckAt 
       ))
 
 -- a set that is refused has no index
-pub check-none : (s : List ℕ) (e : ModuleError) (r : Checked) (index : List ℕ) → r ≡ refused e → IndexedSet s r index
-unfolding refused
-check-none s e r index f = record { names = λ n q. clash (let z : Refused e ≡ Modules n = sym (ap (λ (c : Checked). c.answer) f) ∙ q in cc) }
+pub check-none : (s : List ℕ) (e : ModuleError) (r : SetAnswer) (index : List ℕ) → r ≡ Err e → IndexedSet s r index
+check-none s e r index f = record { names = λ c q. clash (let z : Err e ≡ Ok c = sym f ∙ q in cc) }
 
-pub ruleset check-laws = (check-long, check-start, check-room, check-fits, check-stop, check-main, check-pass, check-first, check-enter, check-places, check-start-fits, check_module, check-less, check-bad, check-by, check-indexed, check-end, check-none)
+pub ruleset check_laws = (check-long, check-start, check-room, check-fits, check-stop, check-main, check-pass, check-first, check-enter, check-places, check-start-fits, check_module, check-less, check-bad, check-by, check-indexed, check-end, check-none)
+
+pub ruleset check_set_with_laws = (check_laws, check_module, check-enter, check-first)

@@ -8,19 +8,19 @@ use lib.ListN.{length, get_or, length-map, get_or-map}
 use borrow.Author.Tests.{le-ltb}
 use Rattle.records.specs.Record.{mark_of, body_of, records, set_kind, is_of}
 use Rattle.records.specs.Descriptor.{Descriptor, descriptor_of}
-use Rattle.records.specs.Set.{Passed, none_yet, judge_at, accepted, go_on, check_from, check_set, blocks, modules}
+use Rattle.records.specs.Set.{Passed, none_yet, judge_at, accepted, go_on, check_from, check_set, blocks, modules, table_of}
 use Rattle.records.specs.Places.{has_place, up_to_place, names_in, distinct}
 use Rattle.records.specs.Finder.{is_first, visible_blocks}
 use Rattle.records.specs.declared.record.Kind.TheVariants.{Place}
 use Rattle.records.specs.declared.error.ModuleError.{ModuleError}
-use Rattle.records.specs.declared.set.Verdict.{Verdict}
-use Rattle.records.specs.declared.set.Verdict.TheVariants.{Stop, Start, Main, Enter, Pass}
-use Rattle.records.specs.declared.set.SetAnswer.TheVariants.{Modules}
+use Rattle.records.specs.Set.{VerdictAnswer}
+use Rattle.records.specs.declared.set.Verdict.TheVariants.{Start, Main, Enter, Pass}
 use Rattle.records.proofs.Logic.{true≠false, neither_left, neither_right}
 use Rattle.records.proofs.finder.Distinct.{first-own, distinct-visible}
 use Rattle.records.proofs.set.Blocks.{good-set}
 use Rattle.records.proofs.set.Places.{first-distinct}
 use Rattle.records.proofs.set.Steps.{Step, begins, belongs, mains, enters, place_is, step-goes, Goes, goes, takes}
+use Rattle.std.specs.Prelude.{Ok, Err}
 
 -- ---- every module is visible
 
@@ -29,7 +29,7 @@ unfolding has_place up_to_place
 kept [] e = refl
 kept (r ∷ rs) e = rw (neither_left (is_of Place r) (has_place rs) e, kept rs (neither_right (is_of Place r) (has_place rs) e))
 
-module _ (s : List ℕ) (n : ℕ) (t : List ℕ) (e : check_set s ≡ record { answer = Modules n; starts = t }) (one : has_place (records s) ≡ false) where
+module _ (s : List ℕ) (n : ℕ) (t : List ℕ) (e : check_set s ≡ Ok (record { count = n; starts = t })) (one : has_place (records s) ≡ false) where
   -- no name stands twice in the set
   pub set-distinct : distinct (names_in (blocks s)) ≡ true
   unfolding blocks
@@ -62,19 +62,19 @@ comes_check {s = s} l first = rw (le-ltb 65535 (length s) l)
 comes_check {s = s} l (next {p = p} {at = at} {r = r} {rs = rs} c k) = comes_check l c ∙ step-goes s p at r (λ q. check_from s q (at + length r) rs) k
 
 -- and it goes on by a step where it does not stop
-pub comes_on : (s : List ℕ) (p : Passed) (at : ℕ) (r : List ℕ) → ((e : ModuleError) → judge_at s p at (set_kind (mark_of r)) (body_of r) ≡ Stop e → ⊥) → (p' : Passed) × Step s p at r p'
+pub comes_on : (s : List ℕ) (p : Passed) (at : ℕ) (r : List ℕ) → ((e : ModuleError) → judge_at s p at (set_kind (mark_of r)) (body_of r) ≡ Err e → ⊥) → (p' : Passed) × Step s p at r p'
 unfolding go_on accepted
 comes_on s p at r h = go (judge_at s p at (set_kind (mark_of r)) (body_of r)) refl
   where
     told : go_on (judge_at s p at (set_kind (mark_of r)) (body_of r)) p at (λ q. accepted [] 0) ≡ accepted [] 0 → (p' : Passed) × Step s p at r p'
-    told e = let g : Goes s p at r (λ q. accepted [] 0) 0 (accepted [] 0).starts = goes s p at r (λ q. accepted [] 0) 0 (accepted [] 0).starts e in (g.to, g.step)
+    told e = let g : Goes s p at r (λ q. accepted [] 0) 0 (table_of [] 0) = goes s p at r (λ q. accepted [] 0) 0 (table_of [] 0) e in (g.to, g.step)
 
-    go : (v : Verdict) → judge_at s p at (set_kind (mark_of r)) (body_of r) ≡ v → (p' : Passed) × Step s p at r p'
-    go (Stop e) ev = absurd (h e ev)
-    go Start ev = told (rw ev)
-    go Main ev = told (rw ev)
-    go Enter ev = told (rw ev)
-    go Pass ev = told (rw ev)
+    go : (v : VerdictAnswer) → judge_at s p at (set_kind (mark_of r)) (body_of r) ≡ v → (p' : Passed) × Step s p at r p'
+    go (Err e) ev = absurd (h e ev)
+    go (Ok Start) ev = told (rw ev)
+    go (Ok Main) ev = told (rw ev)
+    go (Ok Enter) ev = told (rw ev)
+    go (Ok Pass) ev = told (rw ev)
 
 -- in a set without PL the modules of the present place are those of the set so far
 comes_one : {s : List ℕ} {p : Passed} {at : ℕ} {rs : List (List ℕ)} → Comes s p at rs → has_place (records s) ≡ false → (has_place rs ≡ false) × (p.here ≡ p.starts)

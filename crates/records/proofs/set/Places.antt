@@ -15,10 +15,10 @@ use Rattle.records.specs.Descriptor.{module_name}
 use Rattle.records.specs.Set.{Passed, name_at, places_at, check_set, up_to_next, blocks_of, blocks}
 use Rattle.records.specs.Places.{up_to_place, behind_places, places_of, places, names_in, distinct}
 use Rattle.records.specs.declared.record.Kind.TheVariants.{Module, Place}
-use Rattle.records.specs.declared.set.SetAnswer.TheVariants.{Modules}
 use Rattle.records.proofs.name.Lists.{not_same, mem-left, mem-last}
 use Rattle.records.proofs.set.Blocks.{block-name, is_other, other-kind}
 use Rattle.records.proofs.set.Steps.{begins, belongs, mains, enters, Here, name_of, Walk, end, on, takes, module_is, module_no_place, place_is, inner-no_module, inner-no-place, main-no_module, main-no-place}
+use Rattle.std.specs.Prelude.{Ok}
 
 -- ---- the blocks of the places are those of the set
 
@@ -89,7 +89,7 @@ few-places (on {p = p} {at = at} {r = r} {rs = rs} c (enters b) w) l h =
     let k : places_at p.places at + length (behind_places rs) ≤ 8 = rooms w (omega (arith, c.one.long)) (rw z (omega (arith, h))) in
     rw (place_is r b.kind) (omega (arith, k, z, h))
 
-pub at-most-eight : (s : List ℕ) (n : ℕ) (t : List ℕ) → check_set s ≡ record { answer = Modules n; starts = t } → length (places s) ≤ 8
+pub at-most-eight : (s : List ℕ) (n : ℕ) (t : List ℕ) → check_set s ≡ Ok (record { count = n; starts = t }) → length (places s) ≤ 8
 unfolding places
 at-most-eight s n t e = rw (length-map (places_of (records s)) blocks_of) (few-places (takes s n t e).walk (omega arith) refl)
 
@@ -149,6 +149,6 @@ all_apart (r ∷ rs) a bs h = go (is_of Place r) h
     go false k = ⊎_elim (λ (q : bs ≡ blocks_of (up_to_place (r ∷ rs))). rw q a.once) (λ k'. a.behind bs k') (Memᴰ.cases_cons k)
 
 -- no name stands twice in one place
-pub place-distinct : (s : List ℕ) (n : ℕ) (t : List ℕ) → check_set s ≡ record { answer = Modules n; starts = t } → (bs : List (List ℕ)) → Memᴰ bs (places s) → distinct (names_in bs) ≡ true
+pub place-distinct : (s : List ℕ) (n : ℕ) (t : List ℕ) → check_set s ≡ Ok (record { count = n; starts = t }) → (bs : List (List ℕ)) → Memᴰ bs (places s) → distinct (names_in bs) ≡ true
 unfolding places
 place-distinct s n t e bs h = all_apart (records s) (apart (takes s n t e).walk) bs h

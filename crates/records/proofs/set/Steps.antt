@@ -11,18 +11,18 @@ use Rattle.records.specs.Bytes.{same_bytes}
 use Rattle.records.specs.Name.{all_unnamed, mem_name}
 use Rattle.records.specs.Record.{mark_of, body_of, record_more, whole, records, set_kind, mark_for, is_body, is_of}
 use Rattle.records.specs.Descriptor.{module_name}
-use Rattle.records.specs.Set.{Passed, none_yet, with_module, with_main, with_place, body_at, name_at, is_placed, admit_at, enter_at, pass_at, judge_at, pick_verdict, pick_checked, refused, accepted, go_on, check_from, check_set, module_limit}
+use Rattle.records.specs.Set.{Passed, none_yet, with_module, with_main, with_place, body_at, name_at, is_placed, admit_at, enter_at, pass_at, judge_at, pick_verdict, pick_checked, accepted, go_on, check_from, check_set, module_limit}
 use Rattle.records.specs.declared.record.Kind.{Kind}
 use Rattle.records.specs.declared.record.Kind.TheVariants.{Module, Requires, Exports, Opens, Uses, Provides, Package, MainClass, Place, Root, LimitModules, AddReads, AddExports, AddOpens, Static, Other}
 use Rattle.records.specs.declared.error.Input.TheVariants.{Set}
 use Rattle.records.specs.declared.error.ModuleError.{ModuleError}
 use Rattle.records.specs.declared.error.ModuleError.TheVariants.{Malformed, TooLarge, Repeated}
-use Rattle.records.specs.declared.set.Verdict.TheVariants.{Stop, Start, Enter, Pass}
-use Rattle.records.specs.declared.set.SetAnswer.TheVariants.{Modules, Refused}
-use Rattle.records.specs.declared.set.Checked.{Checked}
+use Rattle.records.specs.declared.set.Verdict.TheVariants.{Start, Enter, Pass}
+use Rattle.records.specs.Set.{SetAnswer}
 use Rattle.records.proofs.Logic.{clash, and_left, and_right}
 use Rattle.records.proofs.record.Laws.{IsRecord, front_record, front_of, body-front, records-cons, records-none, records-ind}
 use Rattle.records.proofs.record.Marks.{of-kind}
+use Rattle.std.specs.Prelude.{Ok, Err}
 
 -- ---- the kinds of records that belong to a module and may stand in it any number of times: all but MO, MC and PL
 
@@ -50,7 +50,7 @@ record Inner (k : Kind) : Type 0 where
   no_module : eqb (mark_for k) (mark_for Module) ≡ false
   no_place : eqb (mark_for k) (mark_for Place) ≡ false
   placed : (c : ℕ) (m : Bool) → is_placed c m k ≡ ltb 0 c
-  passes : (s : List ℕ) (p : Passed) (at : ℕ) (b : List ℕ) → pass_at s p at k b ≡ Pass
+  passes : (s : List ℕ) (p : Passed) (at : ℕ) (b : List ℕ) → pass_at s p at k b ≡ (Ok Pass)
 
 inner-is : (k : Kind) → is_inner k ≡ true → Inner k
 unfolding is_inner mark_for set_kind is_placed pass_at
@@ -144,11 +144,10 @@ module _ (r : List ℕ) where
 
 -- ---- the check goes on just by such a step
 
-pub not-refused : {X : Type 0} (e : ModuleError) (n : ℕ) (t : List ℕ) → refused e ≡ record { answer = Modules n; starts = t } → X
-unfolding refused
-not-refused e n t h = let a : Refused e ≡ Modules n = ap (λ (y : Checked). y.answer) h in clash (cc)
+pub not-refused : {X : Type 0} (e : ModuleError) (n : ℕ) (t : List ℕ) → ◌≡◌ {A = SetAnswer} (Err e) (Ok (record { count = n; starts = t })) → X
+not-refused e n t h = clash (cc)
 
-module _ (s : List ℕ) (p : Passed) (at : ℕ) (r : List ℕ) (f : Passed → Checked) where
+module _ (s : List ℕ) (p : Passed) (at : ℕ) (r : List ℕ) (f : Passed → SetAnswer) where
   pub step-goes : {p' : Passed} → Step s p at r p' → go_on (judge_at s p at (set_kind (mark_of r)) (body_of r)) p at f ≡ f p'
   unfolding judge_at is_placed pass_at admit_at enter_at go_on
   step-goes (begins b) = rw (b.kind, b.good, lt-leb module_limit (length p.starts) b.few, b.named, b.new)
@@ -162,32 +161,32 @@ module _ (s : List ℕ) (p : Passed) (at : ℕ) (r : List ℕ) (f : Passed → C
     pub record Goes : Type 0 where
       pub to : Passed
       pub step : Step s p at r to
-      pub left : f to ≡ record { answer = Modules n; starts = t }
+      pub left : f to ≡ Ok (record { count = n; starts = t })
 
-    admitted : set_kind (mark_of r) ≡ Module → is_body Module (body_of r) ≡ true → go_on (admit_at s p at (body_of r)) p at f ≡ record { answer = Modules n; starts = t } → Goes
+    admitted : set_kind (mark_of r) ≡ Module → is_body Module (body_of r) ≡ true → go_on (admit_at s p at (body_of r)) p at f ≡ Ok (record { count = n; starts = t }) → Goes
     unfolding admit_at go_on
     admitted k g e = go (leb module_limit (length p.starts)) refl (same_bytes (module_name (body_of r)) all_unnamed) refl (mem_name (module_name (body_of r)) (map (name_at s) p.here)) refl e
       where
         go : (a : Bool) → leb module_limit (length p.starts) ≡ a → (b : Bool) → same_bytes (module_name (body_of r)) all_unnamed ≡ b → (c : Bool) → mem_name (module_name (body_of r)) (map (name_at s) p.here) ≡ c
-            → go_on (pick_verdict a (Stop (TooLarge at)) (pick_verdict (b || c) (Stop (Repeated at)) Start)) p at f ≡ record { answer = Modules n; starts = t } → Goes
+            → go_on (pick_verdict a (Err (TooLarge at)) (pick_verdict (b || c) (Err (Repeated at)) (Ok Start))) p at f ≡ Ok (record { count = n; starts = t }) → Goes
         go true ea b eb c ec h = not-refused (TooLarge at) n t h
         go false ea true eb c ec h = not-refused (Repeated at) n t h
         go false ea false eb true ec h = not-refused (Repeated at) n t h
         go false ea false eb false ec h =
             record { to = with_module p at; step = begins (record { kind = k; good = g; few = leb-false module_limit (length p.starts) ea; named = eb; new = ec }); left = h }
 
-    entered : set_kind (mark_of r) ≡ Place → is_body Place (body_of r) ≡ true → go_on (enter_at p at) p at f ≡ record { answer = Modules n; starts = t } → Goes
+    entered : set_kind (mark_of r) ≡ Place → is_body Place (body_of r) ≡ true → go_on (enter_at p at) p at f ≡ Ok (record { count = n; starts = t }) → Goes
     unfolding enter_at go_on
     entered k g e = go (leb 8 p.places) refl e
       where
-        go : (a : Bool) → leb 8 p.places ≡ a → go_on (pick_verdict a (Stop (TooLarge at)) Enter) p at f ≡ record { answer = Modules n; starts = t } → Goes
+        go : (a : Bool) → leb 8 p.places ≡ a → go_on (pick_verdict a (Err (TooLarge at)) (Ok Enter)) p at f ≡ Ok (record { count = n; starts = t }) → Goes
         go true ea h = not-refused (TooLarge at) n t h
         go false ea h = record { to = with_place p at; step = enters (record { kind = k; good = g; room = leb-false 8 p.places ea }); left = h }
 
-    belonged : (k : Kind) → set_kind (mark_of r) ≡ k → is_inner k ≡ true → ltb 0 (length p.here) ≡ true → is_body k (body_of r) ≡ true → f p ≡ record { answer = Modules n; starts = t } → Goes
+    belonged : (k : Kind) → set_kind (mark_of r) ≡ k → is_inner k ≡ true → ltb 0 (length p.here) ≡ true → is_body k (body_of r) ≡ true → f p ≡ Ok (record { count = n; starts = t }) → Goes
     belonged k ek i b g e = record { to = p; step = belongs (record { kind = rw ek i; good = rw ek g; behind = ltb-true 0 (length p.here) b }); left = e }
 
-    passed : (k : Kind) → set_kind (mark_of r) ≡ k → is_placed (length p.here) p.main k ≡ true → is_body k (body_of r) ≡ true → go_on (pass_at s p at k (body_of r)) p at f ≡ record { answer = Modules n; starts = t } → Goes
+    passed : (k : Kind) → set_kind (mark_of r) ≡ k → is_placed (length p.here) p.main k ≡ true → is_body k (body_of r) ≡ true → go_on (pass_at s p at k (body_of r)) p at f ≡ Ok (record { count = n; starts = t }) → Goes
     unfolding is_placed pass_at go_on is_inner
     passed Module k h g e = admitted k g e
     passed Requires k h g e = belonged Requires k refl h g e
@@ -216,12 +215,12 @@ module _ (s : List ℕ) (p : Passed) (at : ℕ) (r : List ℕ) (f : Passed → C
     passed Static k h g e = clash (cc)
     passed Other k h g e = clash (cc)
 
-    pub goes : go_on (judge_at s p at (set_kind (mark_of r)) (body_of r)) p at f ≡ record { answer = Modules n; starts = t } → Goes
+    pub goes : go_on (judge_at s p at (set_kind (mark_of r)) (body_of r)) p at f ≡ Ok (record { count = n; starts = t }) → Goes
     unfolding judge_at go_on
     goes e = go (is_placed (length p.here) p.main (set_kind (mark_of r))) refl (is_body (set_kind (mark_of r)) (body_of r)) refl e
       where
         go : (a : Bool) → is_placed (length p.here) p.main (set_kind (mark_of r)) ≡ a → (b : Bool) → is_body (set_kind (mark_of r)) (body_of r) ≡ b
-            → go_on (pick_verdict (a && b) (pass_at s p at (set_kind (mark_of r)) (body_of r)) (Stop (Malformed Set at))) p at f ≡ record { answer = Modules n; starts = t } → Goes
+            → go_on (pick_verdict (a && b) (pass_at s p at (set_kind (mark_of r)) (body_of r)) (Err (Malformed Set at))) p at f ≡ Ok (record { count = n; starts = t }) → Goes
         go true ea true eb h = passed (set_kind (mark_of r)) refl ea eb h
         go true ea false eb h = not-refused (Malformed Set at) n t h
         go false ea b eb h = not-refused (Malformed Set at) n t h
@@ -276,13 +275,13 @@ pub data Walk (s : List ℕ) : Passed → ℕ → List (List ℕ) → Passed →
 record Walked (s : List ℕ) (p : Passed) (at : ℕ) (rs : List (List ℕ)) (n : ℕ) (t : List ℕ) : Type 0 where
   last : Passed
   walk : Walk s p at rs last
-  is : accepted last.starts (length s) ≡ record { answer = Modules n; starts = t }
+  is : accepted last.starts (length s) ≡ Ok (record { count = n; starts = t })
 
-walked_from : (s : List ℕ) (n : ℕ) (t : List ℕ) (p : Passed) {at : ℕ} {rs : List (List ℕ)} → Stands s at rs → check_from s p at rs ≡ record { answer = Modules n; starts = t } → Walked s p at rs n t
+walked_from : (s : List ℕ) (n : ℕ) (t : List ℕ) (p : Passed) {at : ℕ} {rs : List (List ℕ)} → Stands s at rs → check_from s p at rs ≡ Ok (record { count = n; starts = t }) → Walked s p at rs n t
 unfolding check_from
 walked_from s n t p (none {at = at}) e = go (eqb at (length s)) refl e
   where
-    go : (b : Bool) → eqb at (length s) ≡ b → pick_checked b (accepted p.starts (length s)) (refused (Malformed Set at)) ≡ record { answer = Modules n; starts = t } → Walked s p at [] n t
+    go : (b : Bool) → eqb at (length s) ≡ b → pick_checked b (accepted p.starts (length s)) (Err (Malformed Set at)) ≡ Ok (record { count = n; starts = t }) → Walked s p at [] n t
     go true eb h = record { last = p; walk = end (eqb-true at (length s) eb); is = h }
     go false eb h = not-refused (Malformed Set at) n t h
 walked_from s n t p (more {at = at} {r = r} {rs = rs} h w) e =
@@ -295,13 +294,13 @@ pub record Takes (s : List ℕ) (n : ℕ) (t : List ℕ) : Type 0 where
   pub short : length s ≤ 65535
   pub last : Passed
   pub walk : Walk s none_yet 0 (records s) last
-  pub is : accepted last.starts (length s) ≡ record { answer = Modules n; starts = t }
+  pub is : accepted last.starts (length s) ≡ Ok (record { count = n; starts = t })
 
-pub takes : (s : List ℕ) (n : ℕ) (t : List ℕ) → check_set s ≡ record { answer = Modules n; starts = t } → Takes s n t
+pub takes : (s : List ℕ) (n : ℕ) (t : List ℕ) → check_set s ≡ Ok (record { count = n; starts = t }) → Takes s n t
 unfolding check_set
 takes s n t e = go (ltb 65535 (length s)) refl e
   where
-    go : (b : Bool) → ltb 65535 (length s) ≡ b → pick_checked b (refused (TooLarge 0)) (check_from s none_yet 0 (records s)) ≡ record { answer = Modules n; starts = t } → Takes s n t
+    go : (b : Bool) → ltb 65535 (length s) ≡ b → pick_checked b (Err (TooLarge 0)) (check_from s none_yet 0 (records s)) ≡ Ok (record { count = n; starts = t }) → Takes s n t
     go true eb h = not-refused (TooLarge 0) n t h
     go false eb h =
         let w : Walked s none_yet 0 (records s) n t = walked_from s n t none_yet (stands s) h in

@@ -10,9 +10,9 @@ use Rattle.records.specs.Name.{all_unnamed}
 use Rattle.records.specs.Record.{records, is_of}
 use Rattle.records.specs.Set.{Passed, name_at, table_of, accepted, check_set, module_limit}
 use Rattle.records.specs.declared.record.Kind.TheVariants.{Module}
-use Rattle.records.specs.declared.set.SetAnswer.TheVariants.{Modules}
-use Rattle.records.specs.declared.set.Checked.{Checked}
+use Rattle.records.specs.Set.{count_of, starts_in}
 use Rattle.records.proofs.set.Steps.{Begins, begins, belongs, mains, enters, Here, name_of, Walk, end, on, Takes, takes, module_is, inner-no_module, main-no_module, place-no_module}
+use Rattle.std.specs.Prelude.{Ok}
 
 -- ---- a set that passes
 
@@ -82,18 +82,18 @@ pub record Taken (s : List ℕ) (n : ℕ) (t : List ℕ) : Type 0 where
   pub used : length (flatten (records s)) ≡ length s
   pub named : are_named s (starts_of s) ≡ true
 
-pub taken : (s : List ℕ) (n : ℕ) (t : List ℕ) → check_set s ≡ record { answer = Modules n; starts = t } → Taken s n t
+pub taken : (s : List ℕ) (n : ℕ) (t : List ℕ) → check_set s ≡ Ok (record { count = n; starts = t }) → Taken s n t
 unfolding accepted starts_of
 taken s n t e =
     let k : Takes s n t = takes s n t e in
     let g : GoodFrom s [] 0 (records s) k.last.starts = good-from k.walk (omega arith) in
-    let a : Modules (length k.last.starts) ≡ Modules n = ap (λ (c : Checked). c.answer) k.is in
+    let a : Ok (length k.last.starts) ≡ Ok n = ap count_of k.is in
     let m : n ≡ length k.last.starts = cc in
     record {
       short = k.short;
       count = m ∙ ap length g.all;
       few = omega (arith, g.few);
-      table = sym (ap (λ (c : Checked). c.starts) k.is) ∙ ap (λ (l : List ℕ). table_of l (length s)) g.all;
+      table = sym (ap starts_in k.is) ∙ ap (λ (l : List ℕ). table_of l (length s)) g.all;
       used = omega (arith, g.used);
       named = g.named;
     }

@@ -13,11 +13,11 @@ use Rattle.records.specs.Set.{table_of, accepted, check_set, up_to_next, blocks_
 use Rattle.records.specs.Places.{has_place, names_in, distinct}
 use Rattle.records.specs.Finder.{is_first, found_from, visible_blocks}
 use Rattle.records.specs.declared.record.Kind.TheVariants.{Module, Place}
-use Rattle.records.specs.declared.set.SetAnswer.TheVariants.{Modules}
 use Rattle.records.proofs.finder.Distinct.{found-distinct, distinct-visible}
 use Rattle.records.proofs.set.Blocks.{GoodSet, good-set}
 use Rattle.records.proofs.set.BlockSets.{GoodBlock, good-block, Joined, joined}
 use Rattle.records.proofs.set.Table.{Taken, taken}
+use Rattle.std.specs.Prelude.{Ok}
 
 -- ---- what is found is no more and no longer than what there is
 
@@ -62,12 +62,12 @@ blocks-short (r ∷ rs) = go (is_of Module r) (is_of Place r) (blocks-short rs)
 pub record VisibleSet (s v : List ℕ) : Type 0 where
   pub count : ℕ
   pub starts : List ℕ
-  pub taken : check_set v ≡ record { answer = Modules count; starts = starts }
+  pub taken : check_set v ≡ Ok (record { count = count; starts = starts })
   pub blocks_are : blocks v ≡ visible_blocks s
   pub visible_are : visible_blocks v ≡ visible_blocks s
   pub one_place : has_place (records v) ≡ false
 
-module _ (s : List ℕ) (n : ℕ) (t : List ℕ) (e : check_set s ≡ record { answer = Modules n; starts = t }) where
+module _ (s : List ℕ) (n : ℕ) (t : List ℕ) (e : check_set s ≡ Ok (record { count = n; starts = t })) where
   visible-distinct : distinct (names_in (visible_blocks s)) ≡ true
   unfolding visible_blocks
   visible-distinct = found-distinct (λ (b : List ℕ). (descriptor_of b).name) (map (λ (m : Descriptor). m.name) (modules s)) 0 (blocks s)

@@ -14,13 +14,13 @@ use Rattle.records.specs.Name.{mem_name}
 use Rattle.records.specs.Order.{is_ordered, insert_name}
 use Rattle.records.specs.Finder.{find_name, pick_found, is_first}
 use Rattle.records.specs.Sorted.{name_of_position, names_by, is_visible, all_visible, Sorted, Gap}
-use Rattle.records.specs.declared.finder.Found.TheVariants.{At}
 use Rattle.records.proofs.Logic.{clash, by, and_left, and_right, and_both, or_cases, or_left, or_right}
 use Rattle.records.proofs.bytes.Laws.{same-eq, same_refl}
 use Rattle.records.proofs.bytes.Order.{before-one-way}
 use Rattle.records.proofs.order.Ordered.{insert-ordered, insert-mem, insert-new, insert-last}
 use Rattle.records.proofs.finder.Modules.{FoundAt, found_at, at-is}
 use Rattle.records.proofs.sorted.Search.{ahead-differs, by-at, by-long, visible_at, gap_new}
+use Rattle.std.specs.Prelude.{Some}
 
 -- a visible position is one of the names'
 pub visible_in : (names : List (List ℕ)) (p : ℕ) → is_visible names p ≡ true → p < length names
@@ -30,23 +30,23 @@ visible_in names p h =
 
 -- ---- lookup among one name more
 
-find-old : (l : List (List ℕ)) (x n : List ℕ) (i p : ℕ) → find_name l n i ≡ At p → find_name (l ++ (x ∷ [])) n i ≡ At p
+find-old : (l : List (List ℕ)) (x n : List ℕ) (i p : ℕ) → find_name l n i ≡ Some p → find_name (l ++ (x ∷ [])) n i ≡ Some p
 unfolding find_name
 find-old [] x n i p e = clash (cc)
 find-old (m ∷ l) x n i p e = go (same_bytes m n) (find-old l x n (suc i) p) e
   where
-    go : (b : Bool) → (find_name l n (suc i) ≡ At p → find_name (l ++ (x ∷ [])) n (suc i) ≡ At p) → pick_found b (At i) (find_name l n (suc i)) ≡ At p
-        → pick_found b (At i) (find_name (l ++ (x ∷ [])) n (suc i)) ≡ At p
+    go : (b : Bool) → (find_name l n (suc i) ≡ Some p → find_name (l ++ (x ∷ [])) n (suc i) ≡ Some p) → pick_found b (Some i) (find_name l n (suc i)) ≡ Some p
+        → pick_found b (Some i) (find_name (l ++ (x ∷ [])) n (suc i)) ≡ Some p
     go true ih h = h
     go false ih h = ih h
 
-find-new : (l : List (List ℕ)) (x : List ℕ) (i : ℕ) → mem_name x l ≡ false → find_name (l ++ (x ∷ [])) x i ≡ At (i + length l)
+find-new : (l : List (List ℕ)) (x : List ℕ) (i : ℕ) → mem_name x l ≡ false → find_name (l ++ (x ∷ [])) x i ≡ Some (i + length l)
 unfolding find_name mem_name
 find-new [] x i e = rw (same_refl x, add-zero i)
 find-new (m ∷ l) x i e = go (same_bytes m x) (find-new l x (suc i)) e
   where
-    go : (b : Bool) → (mem_name x l ≡ false → find_name (l ++ (x ∷ [])) x (suc i) ≡ At (suc i + length l)) → (b || mem_name x l) ≡ false
-        → pick_found b (At i) (find_name (l ++ (x ∷ [])) x (suc i)) ≡ At (i + suc (length l))
+    go : (b : Bool) → (mem_name x l ≡ false → find_name (l ++ (x ∷ [])) x (suc i) ≡ Some (suc i + length l)) → (b || mem_name x l) ≡ false
+        → pick_found b (Some i) (find_name (l ++ (x ∷ [])) x (suc i)) ≡ Some (i + suc (length l))
     go true ih h = clash (cc)
     go false ih h = let q : suc i + length l ≡ i + suc (length l) = omega arith in ih h ∙ rw q
 
@@ -64,7 +64,7 @@ module _ (names : List (List ℕ)) (x : List ℕ) where
   unfolding name_of_position
   new-name = get_or-append_seam names x [] []
 
-  is-visible : (p : ℕ) → find_name (names ++ (x ∷ [])) (name_of_position (names ++ (x ∷ [])) p) 0 ≡ At p → is_visible (names ++ (x ∷ [])) p ≡ true
+  is-visible : (p : ℕ) → find_name (names ++ (x ∷ [])) (name_of_position (names ++ (x ∷ [])) p) 0 ≡ Some p → is_visible (names ++ (x ∷ [])) p ≡ true
   unfolding is_visible is_first
   is-visible p e = at-is (find_name (names ++ (x ∷ [])) (name_of_position (names ++ (x ∷ [])) p) 0) p e
 

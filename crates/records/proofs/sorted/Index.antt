@@ -287,3 +287,7 @@ module _ (names : List (List ℕ)) (index : List ℕ) (m : ℕ) (h : Indexed nam
         sorted = rw first-table h.sorted;
         keys = λ p q. first-kept p (position_in_lem names index h p (rw first-table at q)) (h.keys p (rw first-table at q));
       }
+
+pub ruleset check_laws = (indexed-none)
+
+pub ruleset check_set_laws = (indexed-none)

@@ -4,7 +4,6 @@ use mathlib.Core.Path.{◌≡◌, refl, sym, ◌∙◌, ap}
 use mathlib.Core.List.{List, [], ◌∷◌, ◌++◌, map}
 use mathlib.Core.Bool.{Bool, true, false}
 use native.Mathlib.Omega.{arith}
-use native.Mathlib.Numerals.{sub-one}
 use lib.ListN.{length, get_or, take, set, length-map, length-set}
 use lib.Seq.{get_or-take, length-take-le}
 use mir.Syntax.{w64}
@@ -17,12 +16,9 @@ use Rattle.records.specs.Order.{shifted}
 use Rattle.records.specs.Finder.{find_name}
 use Rattle.records.specs.Keys.{standing, pick_standing, Key, Keys, key_standing, Alike}
 use Rattle.records.specs.Sorted.{name_of_position, names_by, middle_of, by_standing, search_at, found_in, search_ten, Held, Gap, Placing, Below, entries_in, table_in, KeysAt, put_at, Indexed, Added, entries_slot, first_slot, table_slot, index_length}
-use Rattle.records.specs.declared.finder.Found.{Found}
-use Rattle.records.specs.declared.finder.Found.TheVariants.{At, Nothing}
-use Rattle.records.specs.declared.keys.Standing.{Standing}
-use Rattle.records.specs.declared.keys.Standing.TheVariants.{Same, Before, After}
-use Rattle.records.specs.declared.sorted.Place.{Place}
-use Rattle.records.specs.declared.sorted.Place.TheVariants.{There, Free}
+use Rattle.records.specs.Finder.{Found}
+use Rattle.std.specs.declared.cmp.Ordering.{Ordering}
+use Rattle.records.specs.Sorted.{Place}
 use Rattle.records.proofs.Logic.{clash}
 use Rattle.records.proofs.bytes.Laws.{same-eq, same_refl}
 use Rattle.records.proofs.bytes.Order.{before-total}
@@ -31,18 +27,10 @@ use Rattle.records.proofs.order.Ordered.{mem-there}
 use Rattle.records.proofs.keys.ByteOrder.{keys-before, keys-after, keys-same}
 use Rattle.records.proofs.sorted.Search.{middle_high, reach, beyond, by-at, by-long, placing-there, placing-free, search_first, sorted_ten, gap_new}
 use Rattle.records.proofs.sorted.Index.{table_long, table-few, entry-index, entry_at, entry_in, entry-keys, indexed-there, indexed-put, indexed-first}
+use Rattle.std.specs.Prelude.{Some, None, Ok, Err}
+use Rattle.std.specs.declared.cmp.Ordering.TheVariants.{Less, Equal, Greater}
 
 -- ---- the middle
-
-module _ (low high : ℕ) (l : low ≤ high) where
-  pub middle_is : low + (high - low) / 2 ≡ middle_of low high
-  unfolding middle_of
-  middle_is = refl
-
-  pub middle_most : low + (high - low) / 2 ≤ high
-  middle_most = omega arith
-
-pub ruleset middle_laws = (middle_is, middle_most)
 
 middle_least : (low high : ℕ) → low ≤ middle_of low high
 unfolding middle_of
@@ -79,43 +67,46 @@ module _ (s t : List ℕ) (count : ℕ) (index : List ℕ) (it : count ≤ lengt
   pub entry-start : get_or index (table_slot + m) 0 < length t
   entry-start = omega (arith, below-count)
 
-  name-is : name_of_position (map (name_at s) (take count t)) (get_or index (table_slot + m) 0) ≡ name_at s (get_or t (get_or index (table_slot + m) 0) 0)
-  name-is = position-name s t count it (get_or index (table_slot + m) 0) below-count
+  name_is : name_of_position (map (name_at s) (take count t)) (get_or index (table_slot + m) 0) ≡ name_at s (get_or t (get_or index (table_slot + m) 0) 0)
+  name_is = position-name s t count it (get_or index (table_slot + m) 0) below-count
 
   named-keys : Keys (name_at s (get_or t (get_or index (table_slot + m) 0) 0)) (get_or index (3 * get_or index (table_slot + m) 0) 0) (get_or index (3 * get_or index (table_slot + m) 0 + 1) 0) (get_or index (3 * get_or index (table_slot + m) 0 + 2) 0)
   unfolding KeysAt
-  named-keys = rw name-is at (entry-keys (map (name_at s) (take count t)) index h m mh)
+  named-keys = rw name_is at (entry-keys (map (name_at s) (take count t)) index h m mh)
 
   pub entry_length : get_or index (3 * get_or index (table_slot + m) 0 + 2) 0 ≡ length (name_at s (get_or t (get_or index (table_slot + m) 0) 0))
   entry_length = named-keys.long
 
   pub entry-name : name_of_position (map (name_at s) (take count t)) (get_or (table_in index) m 0) ≡ name_at s (get_or t (get_or index (table_slot + m) 0) 0)
-  entry-name = rw (entry_at (map (name_at s) (take count t)) index h m mh) name-is
+  entry-name = rw (entry_at (map (name_at s) (take count t)) index h m mh) name_is
 
-  module _ (name : List ℕ) (k j : ℕ) (kk : Key name 0 k) (jj : Key name 8 j) (c : Standing)
-      (ec : c ≡ key_standing (get_or index (3 * get_or index (table_slot + m) 0) 0) (get_or index (3 * get_or index (table_slot + m) 0 + 1) 0) k j) where
-    pub entry-alike : c ≡ Same → Alike (name_at s (get_or t (get_or index (table_slot + m) 0) 0)) name
+  module _ (name : List ℕ) (k j : ℕ) (kk : Key name 0 k) (jj : Key name 8 j) (a b : ℕ) (ea : a ≡ get_or index (3 * get_or index (table_slot + m) 0) 0) (eb : b ≡ get_or index (3 * get_or index (table_slot + m) 0 + 1) 0)
+      (c : Ordering) (ec : c ≡ key_standing a b k j) where
+    told : c ≡ key_standing (get_or index (3 * get_or index (table_slot + m) 0) 0) (get_or index (3 * get_or index (table_slot + m) 0 + 1) 0) k j
+    told = ec ∙ rw (ea, eb)
+
+    pub entry-alike : c ≡ Equal → Alike (name_at s (get_or t (get_or index (table_slot + m) 0) 0)) name
     entry-alike e = keys-same (name_at s (get_or t (get_or index (table_slot + m) 0) 0)) name
-        (get_or index (3 * get_or index (table_slot + m) 0) 0) (get_or index (3 * get_or index (table_slot + m) 0 + 1) 0) (get_or index (3 * get_or index (table_slot + m) 0 + 2) 0) k j named-keys kk jj (sym ec ∙ e)
+        (get_or index (3 * get_or index (table_slot + m) 0) 0) (get_or index (3 * get_or index (table_slot + m) 0 + 1) 0) (get_or index (3 * get_or index (table_slot + m) 0 + 2) 0) k j named-keys kk jj (sym told ∙ e)
 
-    pub entry-before : c ≡ Before → Before ≡ standing (name_of_position (map (name_at s) (take count t)) (get_or (table_in index) m 0)) name
+    pub entry-before : c ≡ Less → Less ≡ standing (name_of_position (map (name_at s) (take count t)) (get_or (table_in index) m 0)) name
     entry-before e = sym (rw entry-name (keys-before (name_at s (get_or t (get_or index (table_slot + m) 0) 0)) name
-        (get_or index (3 * get_or index (table_slot + m) 0) 0) (get_or index (3 * get_or index (table_slot + m) 0 + 1) 0) (get_or index (3 * get_or index (table_slot + m) 0 + 2) 0) k j named-keys kk jj (sym ec ∙ e)))
+        (get_or index (3 * get_or index (table_slot + m) 0) 0) (get_or index (3 * get_or index (table_slot + m) 0 + 1) 0) (get_or index (3 * get_or index (table_slot + m) 0 + 2) 0) k j named-keys kk jj (sym told ∙ e)))
 
-    pub entry-after : c ≡ After → After ≡ standing (name_of_position (map (name_at s) (take count t)) (get_or (table_in index) m 0)) name
+    pub entry-after : c ≡ Greater → Greater ≡ standing (name_of_position (map (name_at s) (take count t)) (get_or (table_in index) m 0)) name
     entry-after e = sym (rw entry-name (keys-after (name_at s (get_or t (get_or index (table_slot + m) 0) 0)) name
-        (get_or index (3 * get_or index (table_slot + m) 0) 0) (get_or index (3 * get_or index (table_slot + m) 0 + 1) 0) (get_or index (3 * get_or index (table_slot + m) 0 + 2) 0) k j named-keys kk jj (sym ec ∙ e)))
+        (get_or index (3 * get_or index (table_slot + m) 0) 0) (get_or index (3 * get_or index (table_slot + m) 0 + 1) 0) (get_or index (3 * get_or index (table_slot + m) 0 + 2) 0) k j named-keys kk jj (sym told ∙ e)))
 
-  pub entry-told : (name : List ℕ) (d : Standing) → d ≡ standing (name_at s (get_or t (get_or index (table_slot + m) 0) 0)) name
+  pub entry-told : (name : List ℕ) (d : Ordering) → d ≡ standing (name_at s (get_or t (get_or index (table_slot + m) 0) 0)) name
       → d ≡ standing (name_of_position (map (name_at s) (take count t)) (get_or (table_in index) m 0)) name
   entry-told name d e = e ∙ rw entry-name
 
-pub ruleset entry-laws = (entry-slot, entry-long, entry-small, entry-start, entry_length, entry-alike, entry-before, entry-after, entry-told)
+pub ruleset entry_laws = (entry-slot, entry-long, entry-small, entry-start, entry_length, entry-alike, entry-before, entry-after, entry-told)
 
 -- ---- the search
 
--- what is found among all entries is what is found among those from low up to high, with the comparisons left
-pub record SeekAt (s t : List ℕ) (count : ℕ) (index : List ℕ) (first : ℕ) (name : List ℕ) (k j low high m left : ℕ) : Type 0 where
+-- what is found among all entries is what is found among those from low up to high, with the comparisons that are left
+pub record SeekAt (s t : List ℕ) (count : ℕ) (index : List ℕ) (first : ℕ) (name : List ℕ) (k j low high m tried : ℕ) : Type 0 where
   pub in-starts : count ≤ length t
   pub indexed : Indexed (map (name_at s) (take count t)) index
   pub first_key : Key name 0 k
@@ -126,13 +117,13 @@ pub record SeekAt (s t : List ℕ) (count : ℕ) (index : List ℕ) (first : ℕ
   pub inside : low < high → m < high
   pub most : m ≤ high
   pub is : search_at 10 (map (name_at s) (take count t)) (table_in index) name 0 first (length (table_in index))
-      ≡ search_at left (map (name_at s) (take count t)) (table_in index) name low m high
+      ≡ search_at (10 - tried) (map (name_at s) (take count t)) (table_in index) name low m high
 
 pub seek-long : (s t : List ℕ) (count : ℕ) (index : List ℕ) → Indexed (map (name_at s) (take count t)) index → entries_slot < length index
 seek-long s t count index h = rw h.long (omega arith)
 
 pub seek-start : (s t : List ℕ) (count : ℕ) (index : List ℕ) (first : ℕ) (name : List ℕ) (k j : ℕ) → count ≤ length t → Indexed (map (name_at s) (take count t)) index
-    → first ≤ entries_in index - 1 → Key name 0 k → Key name 8 j → SeekAt s t count index first name k j 0 (get_or index entries_slot 0) first 10
+    → first ≤ entries_in index - 1 → Key name 0 k → Key name 8 j → SeekAt s t count index first name k j 0 (get_or index entries_slot 0) first 0
 unfolding entries_in
 seek-start s t count index first name k j it h f kk jj = record {
   in-starts = it;
@@ -147,20 +138,20 @@ seek-start s t count index first name k j it h f kk jj = record {
   is = rw (table_long (map (name_at s) (take count t)) index h);
 }
 
-module _ (s t : List ℕ) (count : ℕ) (index : List ℕ) (first : ℕ) (name : List ℕ) (k j low high m left : ℕ) (h : SeekAt s t count index first name k j low high m left) where
-  pub seek-empty : 0 < left → high ≤ low → Free low ≡ search_at 10 (map (name_at s) (take count t)) (table_in index) name 0 first (length (table_in index))
+module _ (s t : List ℕ) (count : ℕ) (index : List ℕ) (first : ℕ) (name : List ℕ) (k j low high m tried : ℕ) (h : SeekAt s t count index first name k j low high m tried) where
+  pub seek-empty : tried < 10 → high ≤ low → Err low ≡ search_at 10 (map (name_at s) (take count t)) (table_in index) name 0 first (length (table_in index))
   unfolding search_at
-  seek-empty z l = sym (h.is ∙ go left z)
+  seek-empty z l = sym (h.is ∙ go (10 - tried) (omega arith))
     where
-      go : (q : ℕ) → 0 < q → search_at q (map (name_at s) (take count t)) (table_in index) name low m high ≡ Free low
+      go : (q : ℕ) → 0 < q → search_at q (map (name_at s) (take count t)) (table_in index) name low m high ≡ Err low
       go zero w = absurd (omega arith)
       go (suc q) w = rw (le-ltb low high l)
 
-  pub seek-out : left ≤ 0 → Free low ≡ search_at 10 (map (name_at s) (take count t)) (table_in index) name 0 first (length (table_in index))
+  pub seek-out : 10 ≤ tried → Err low ≡ search_at 10 (map (name_at s) (take count t)) (table_in index) name 0 first (length (table_in index))
   unfolding search_at
-  seek-out z = sym (h.is ∙ go left z)
+  seek-out z = sym (h.is ∙ go (10 - tried) (omega arith))
     where
-      go : (q : ℕ) → q ≤ 0 → search_at q (map (name_at s) (take count t)) (table_in index) name low m high ≡ Free low
+      go : (q : ℕ) → q ≤ 0 → search_at q (map (name_at s) (take count t)) (table_in index) name low m high ≡ Err low
       go zero w = refl
       go (suc q) w = absurd (omega arith)
 
@@ -168,38 +159,25 @@ module _ (s t : List ℕ) (count : ℕ) (index : List ℕ) (first : ℕ) (name :
     pub seek-inside : m < entries_in index
     seek-inside = omega (arith, h.inside l, h.within)
 
-    pub seek-slot : table_slot + m < length index
-    seek-slot = entry-slot s t count index h.in-starts h.indexed m seek-inside
-
-    pub seek-entry : get_or index (table_slot + m) 0 < module_limit
-    seek-entry = entry-small s t count index h.in-starts h.indexed m seek-inside
-
-    pub seek-begins : get_or index (table_slot + m) 0 < length t
-    seek-begins = entry-start s t count index h.in-starts h.indexed m seek-inside
-
-    pub seek-length : get_or index (3 * get_or index (table_slot + m) 0 + 2) 0 ≡ length (name_at s (get_or t (get_or index (table_slot + m) 0) 0))
-    seek-length = entry_length s t count index h.in-starts h.indexed m seek-inside
-
     pub seek-fits : m + 1 ≤ high
     seek-fits = omega (arith, h.inside l)
 
-    module _ (z : 0 < left) (d : Standing) (ed : d ≡ standing (name_of_position (map (name_at s) (take count t)) (get_or (table_in index) m 0)) name) where
+    module _ (z : tried < 10) (d : Ordering) (ed : d ≡ standing (name_of_position (map (name_at s) (take count t)) (get_or (table_in index) m 0)) name) where
       turn : search_at 10 (map (name_at s) (take count t)) (table_in index) name 0 first (length (table_in index))
-          ≡ by_standing d (There m)
-          (search_at (left - 1) (map (name_at s) (take count t)) (table_in index) name (m + 1) (middle_of (m + 1) high) high)
-          (search_at (left - 1) (map (name_at s) (take count t)) (table_in index) name low (middle_of low m) m)
+          ≡ by_standing d (Ok m)
+          (search_at (10 - (tried + 1)) (map (name_at s) (take count t)) (table_in index) name (m + 1) (middle_of (m + 1) high) high)
+          (search_at (10 - (tried + 1)) (map (name_at s) (take count t)) (table_in index) name low (middle_of low m) m)
       unfolding search_at
-      turn = h.is ∙ go left z
+      turn = h.is ∙ go (10 - tried) (10 - (tried + 1)) (omega arith)
         where
-          go : (q : ℕ) → 0 < q → search_at q (map (name_at s) (take count t)) (table_in index) name low m high
-              ≡ by_standing d (There m)
-              (search_at (q - 1) (map (name_at s) (take count t)) (table_in index) name (m + 1) (middle_of (m + 1) high) high)
-              (search_at (q - 1) (map (name_at s) (take count t)) (table_in index) name low (middle_of low m) m)
-          go zero w = absurd (omega arith)
-          go (suc q) w = rw (lt-ltb low high l, ← ed, sub-one (suc q))
+          go : (q p : ℕ) → q ≡ suc p → search_at q (map (name_at s) (take count t)) (table_in index) name low m high
+              ≡ by_standing d (Ok m)
+              (search_at p (map (name_at s) (take count t)) (table_in index) name (m + 1) (middle_of (m + 1) high) high)
+              (search_at p (map (name_at s) (take count t)) (table_in index) name low (middle_of low m) m)
+          go q p e = rw (e, lt-ltb low high l, ← ed)
 
-      up : d ≡ Before → (m' : ℕ) → m' ≡ middle_of (m + 1) high → m' ≤ high → SeekAt s t count index first name k j (m + 1) high m' (left - 1)
-      up e m' em mm = record {
+      seek-up : d ≡ Less → (m' : ℕ) → m' ≡ middle_of (m + 1) high → m' ≤ high → SeekAt s t count index first name k j (m + 1) high m' (tried + 1)
+      seek-up e m' em mm = record {
         in-starts = h.in-starts;
         indexed = h.indexed;
         first_key = h.first_key;
@@ -212,8 +190,8 @@ module _ (s t : List ℕ) (count : ℕ) (index : List ℕ) (first : ℕ) (name :
         is = turn ∙ rw (e, em);
       }
 
-      down : d ≡ After → (m' : ℕ) → m' ≡ middle_of low m → m' ≤ m → SeekAt s t count index first name k j low m m' (left - 1)
-      down e m' em mm = record {
+      seek-down : d ≡ Greater → (m' : ℕ) → m' ≡ middle_of low m → m' ≤ m → SeekAt s t count index first name k j low m m' (tried + 1)
+      seek-down e m' em mm = record {
         in-starts = h.in-starts;
         indexed = h.indexed;
         first_key = h.first_key;
@@ -226,40 +204,22 @@ module _ (s t : List ℕ) (count : ℕ) (index : List ℕ) (first : ℕ) (name :
         is = turn ∙ rw (e, em);
       }
 
-      there : d ≡ Same → There m ≡ search_at 10 (map (name_at s) (take count t)) (table_in index) name 0 first (length (table_in index))
-      there e = sym (turn ∙ rw e)
+      pub seek-there : d ≡ Equal → Ok m ≡ search_at 10 (map (name_at s) (take count t)) (table_in index) name 0 first (length (table_in index))
+      seek-there e = sym (turn ∙ rw e)
 
-    pub seek-alike : (c : Standing) → c ≡ key_standing (get_or index (3 * get_or index (table_slot + m) 0) 0) (get_or index (3 * get_or index (table_slot + m) 0 + 1) 0) k j → c ≡ Same
-        → Alike (name_at s (get_or t (get_or index (table_slot + m) 0) 0)) name
-    seek-alike c ec e = entry-alike s t count index h.in-starts h.indexed m seek-inside name k j h.first_key h.next_key c ec e
+  -- one more turn: what was compared stands before the name, or behind it
+  module _ (l : low < high) (z : tried < 10) (d : Ordering) (ed : d ≡ standing (name_of_position (map (name_at s) (take count t)) (get_or (table_in index) m 0)) name)
+      (low' high' m' : ℕ) where
+    pub seek-less : d ≡ Less → low' ≡ m + 1 → high' ≡ high → m' ≡ middle_of (m + 1) high → m' ≤ high → SeekAt s t count index first name k j low' high' m' (tried + 1)
+    seek-less e el eh em mm = rw (el, eh) (seek-up l z d ed e m' em mm)
 
-    module _ (z : 0 < left) (c : Standing) (ec : c ≡ key_standing (get_or index (3 * get_or index (table_slot + m) 0) 0) (get_or index (3 * get_or index (table_slot + m) 0 + 1) 0) k j) where
-      pub seek-before : c ≡ Before → (m' : ℕ) → m' ≡ middle_of (m + 1) high → m' ≤ high → SeekAt s t count index first name k j (m + 1) high m' (left - 1)
-      seek-before e = up z Before (entry-before s t count index h.in-starts h.indexed m seek-inside name k j h.first_key h.next_key c ec e) refl
-
-      pub seek-after : c ≡ After → (m' : ℕ) → m' ≡ middle_of low m → m' ≤ m → SeekAt s t count index first name k j low m m' (left - 1)
-      seek-after e = down z After (entry-after s t count index h.in-starts h.indexed m seek-inside name k j h.first_key h.next_key c ec e) refl
-
-    module _ (z : 0 < left) (d : Standing) (ed : d ≡ standing (name_at s (get_or t (get_or index (table_slot + m) 0) 0)) name) where
-      told : d ≡ standing (name_of_position (map (name_at s) (take count t)) (get_or (table_in index) m 0)) name
-      told = entry-told s t count index h.in-starts h.indexed m seek-inside name d ed
-
-      pub seek-there : d ≡ Same → There m ≡ search_at 10 (map (name_at s) (take count t)) (table_in index) name 0 first (length (table_in index))
-      seek-there e = there z d told e
-
-      pub seek-up : d ≡ Before → (m' : ℕ) → m' ≡ middle_of (m + 1) high → m' ≤ high → SeekAt s t count index first name k j (m + 1) high m' (left - 1)
-      seek-up e = up z d told e
-
-      pub seek-down : d ≡ After → (m' : ℕ) → m' ≡ middle_of low m → m' ≤ m → SeekAt s t count index first name k j low m m' (left - 1)
-      seek-down e = down z d told e
+    pub seek-greater : d ≡ Greater → low' ≡ low → high' ≡ m → m' ≡ middle_of low m → m' ≤ m → SeekAt s t count index first name k j low' high' m' (tried + 1)
+    seek-greater e el eh em mm = rw (el, eh) (seek-down l z d ed e m' em mm)
 
   pub seek-order : low ≤ m
   seek-order = h.least
 
-  pub seek-room : length index ≡ index_length
-  seek-room = h.indexed.long
-
-pub ruleset seek-laws = (seek-long, seek-start, seek-empty, seek-out, seek-slot, seek-entry, seek-begins, seek-length, seek-fits, seek-alike, seek-before, seek-after, seek-there, seek-up, seek-down, seek-order, seek-room)
+pub ruleset seek_laws = (seek-long, seek-start, seek-empty, seek-out, seek-inside, seek-fits, seek-there, seek-less, seek-greater, seek-order)
 
 -- ---- the module of a name
 
@@ -284,62 +244,62 @@ module _ (s t : List ℕ) (count : ℕ) (index : List ℕ) (it : count ≤ lengt
         e ∙ sorted_ten (map (name_at s) (take count t)) (table_in index) h.sorted name (get_or index first_slot 0)
         (rw (table_long (map (name_at s) (take count t)) index h) h.first) (table-few (map (name_at s) (take count t)) index h)
 
-    held : (m : ℕ) → r ≡ There m → m < entries_in index
+    held : (m : ℕ) → r ≡ Ok m → m < entries_in index
     held m e =
         let p : Held (map (name_at s) (take count t)) (table_in index) name m = (sought-placing (map (name_at s) (take count t)) index h (get_or index first_slot 0) h.first name r er).there m e in
         rw (table_long (map (name_at s) (take count t)) index h) at p.within
 
-    pub find-entry : (m : ℕ) → r ≡ There m → table_slot + m < length index
+    pub find-entry : (m : ℕ) → r ≡ Ok m → table_slot + m < length index
     find-entry m e = entry-slot s t count index it h m (held m e)
 
-    pub find-entry-fits : (m : ℕ) → r ≡ There m → Fits w64 (table_slot + m)
+    pub find-entry-fits : (m : ℕ) → r ≡ Ok m → Fits w64 (table_slot + m)
     find-entry-fits m e = let l : table_slot + m < index_length = rw h.long at (find-entry m e) in Fits-below {n = index_length} tt (omega (arith, l))
 
-    pub find-entry-scaled : (m : ℕ) → r ≡ There m → Fits w64 ((table_slot + m) * 8)
+    pub find-entry-scaled : (m : ℕ) → r ≡ Ok m → Fits w64 ((table_slot + m) * 8)
     find-entry-scaled m e = let l : table_slot + m < index_length = rw h.long at (find-entry m e) in Fits-below {n = 16400} tt (omega (arith, l))
 
-    pub find-there : (m : ℕ) → r ≡ There m → At (get_or index (table_slot + m) 0) ≡ search_ten (map (name_at s) (take count t)) (table_in index) (get_or index first_slot 0) name
+    pub find-there : (m : ℕ) → r ≡ Ok m → Some (get_or index (table_slot + m) 0) ≡ search_ten (map (name_at s) (take count t)) (table_in index) (get_or index first_slot 0) name
     unfolding search_ten found_in
-    find-there m e = rw (← er, e) (ap At (sym (entry_at (map (name_at s) (take count t)) index h m (held m e))))
+    find-there m e = rw (← er, e) (ap Some (sym (entry_at (map (name_at s) (take count t)) index h m (held m e))))
 
-    pub find-there-walk : (m : ℕ) → r ≡ There m → At (get_or index (table_slot + m) 0) ≡ find_name (map (name_at s) (take count t)) name 0
-    find-there-walk m e = walk (At (get_or index (table_slot + m) 0)) (find-there m e)
+    pub find-there-walk : (m : ℕ) → r ≡ Ok m → Some (get_or index (table_slot + m) 0) ≡ find_name (map (name_at s) (take count t)) name 0
+    find-there-walk m e = walk (Some (get_or index (table_slot + m) 0)) (find-there m e)
 
-    pub find-free : (m : ℕ) → r ≡ Free m → Nothing ≡ search_ten (map (name_at s) (take count t)) (table_in index) (get_or index first_slot 0) name
+    pub find-free : (m : ℕ) → r ≡ Err m → None ≡ search_ten (map (name_at s) (take count t)) (table_in index) (get_or index first_slot 0) name
     unfolding search_ten found_in
     find-free m e = rw (← er, e)
 
-    pub find-free-walk : (m : ℕ) → r ≡ Free m → Nothing ≡ find_name (map (name_at s) (take count t)) name 0
-    find-free-walk m e = walk Nothing (find-free m e)
+    pub find-free-walk : (m : ℕ) → r ≡ Err m → None ≡ find_name (map (name_at s) (take count t)) name 0
+    find-free-walk m e = walk None (find-free m e)
 
-pub ruleset find-laws = (find-slot, find_first, find-entry, find-entry-fits, find-entry-scaled, find-there, find-there-walk, find-free, find-free-walk)
+pub ruleset find_laws = (find-slot, find_first, find-entry, find-entry-fits, find-entry-scaled, find-there, find-there-walk, find-free, find-free-walk)
 
 -- ---- where a name belongs
 
 module _ (a b : List ℕ) where
-  standing-same : standing a b ≡ Same → same_bytes a b ≡ true
+  standing-same : standing a b ≡ Equal → same_bytes a b ≡ true
   unfolding standing
   standing-same e = go (before_bytes a b) (same_bytes a b) refl e
     where
-      go : (p q : Bool) → same_bytes a b ≡ q → pick_standing p Before (pick_standing q Same After) ≡ Same → same_bytes a b ≡ true
+      go : (p q : Bool) → same_bytes a b ≡ q → pick_standing p Less (pick_standing q Equal Greater) ≡ Equal → same_bytes a b ≡ true
       go true q eq h = clash (cc)
       go false true eq h = eq
       go false false eq h = clash (cc)
 
-  standing-before : standing a b ≡ Before → before_bytes a b ≡ true
+  standing-before : standing a b ≡ Less → before_bytes a b ≡ true
   unfolding standing
   standing-before e = go (before_bytes a b) refl (same_bytes a b) e
     where
-      go : (p : Bool) → before_bytes a b ≡ p → (q : Bool) → pick_standing p Before (pick_standing q Same After) ≡ Before → before_bytes a b ≡ true
+      go : (p : Bool) → before_bytes a b ≡ p → (q : Bool) → pick_standing p Less (pick_standing q Equal Greater) ≡ Less → before_bytes a b ≡ true
       go true ep q h = ep
       go false ep true h = clash (cc)
       go false ep false h = clash (cc)
 
-  standing-after : standing a b ≡ After → before_bytes b a ≡ true
+  standing-after : standing a b ≡ Greater → before_bytes b a ≡ true
   unfolding standing
   standing-after e = go (before_bytes a b) refl (same_bytes a b) refl e
     where
-      go : (p : Bool) → before_bytes a b ≡ p → (q : Bool) → same_bytes a b ≡ q → pick_standing p Before (pick_standing q Same After) ≡ After → before_bytes b a ≡ true
+      go : (p : Bool) → before_bytes a b ≡ p → (q : Bool) → same_bytes a b ≡ q → pick_standing p Less (pick_standing q Equal Greater) ≡ Greater → before_bytes b a ≡ true
       go true ep q eq h = clash (cc)
       go false ep true eq h = clash (cc)
       go false ep false eq h = before-total a b ep eq
@@ -359,7 +319,7 @@ module _ (names : List (List ℕ)) (index : List ℕ) (h : Indexed names index) 
   place-sought first r f e = sought-placing names index h first f name r e
 
   -- no entry
-  pub place_none : get_or index entries_slot 0 ≡ 0 → Placing names (table_in index) name (Free 0)
+  pub place_none : get_or index entries_slot 0 ≡ 0 → Placing names (table_in index) name (Err 0)
   unfolding entries_in
   place_none z =
       let q : length (table_in index) ≡ 0 = table_long names index h ∙ z in
@@ -369,19 +329,19 @@ module _ (names : List (List ℕ)) (index : List ℕ) (h : Indexed names index) 
   unfolding entries_in
   place-some z = omega (arith, h.first)
 
-  module _ (m : ℕ) (c : Standing) (ec : c ≡ standing (name_of_position names (get_or (table_in index) m 0)) name) (l : m < entries_in index) where
-    pub place_same : c ≡ Same → Placing names (table_in index) name (There m)
+  module _ (m : ℕ) (c : Ordering) (ec : c ≡ standing (name_of_position names (get_or (table_in index) m 0)) name) (l : m < entries_in index) where
+    pub place_same : c ≡ Equal → Placing names (table_in index) name (Ok m)
     place_same e = placing-there names (table_in index) name m (rw (table_long names index h) l)
         (standing-same (name_of_position names (get_or (table_in index) m 0)) name (sym ec ∙ e))
 
-    pub place-below : c ≡ Before → Below names (table_in index) name (m + 1)
+    pub place-below : c ≡ Less → Below names (table_in index) name (m + 1)
     place-below e = record {
       all = reach names (table_in index) name h.sorted.ascending m (rw (table_long names index h) l)
           (standing-before (name_of_position names (get_or (table_in index) m 0)) name (sym ec ∙ e));
     }
 
     -- the entries below it stand before the name, and it stands behind it
-    pub place_here : c ≡ After → Below names (table_in index) name m → Placing names (table_in index) name (Free m)
+    pub place_here : c ≡ Greater → Below names (table_in index) name m → Placing names (table_in index) name (Err m)
     place_here e b = placing-free names (table_in index) name m (record {
       within = rw (table_long names index h) (omega arith);
       below = b.all;
@@ -389,12 +349,12 @@ module _ (names : List (List ℕ)) (index : List ℕ) (h : Indexed names index) 
     })
 
   -- behind the entry that was put in last
-  pub place-behind : (c : Standing) → c ≡ standing (name_of_position names (get_or (table_in index) (get_or index first_slot 0) 0)) name → c ≡ Before → (get_or index entries_slot 0 ≡ 0 → ⊥)
+  pub place-behind : (c : Ordering) → c ≡ standing (name_of_position names (get_or (table_in index) (get_or index first_slot 0) 0)) name → c ≡ Less → (get_or index entries_slot 0 ≡ 0 → ⊥)
       → Below names (table_in index) name (get_or index first_slot 0 + 1)
   place-behind c ec e z = place-below (get_or index first_slot 0) c ec (place-some z) e
 
   -- behind the last
-  pub place-last : (m : ℕ) → m ≡ get_or index entries_slot 0 → Below names (table_in index) name m → Placing names (table_in index) name (Free (get_or index entries_slot 0))
+  pub place-last : (m : ℕ) → m ≡ get_or index entries_slot 0 → Below names (table_in index) name m → Placing names (table_in index) name (Err (get_or index entries_slot 0))
   unfolding entries_in
   place-last m e b =
       let q : length (table_in index) ≡ get_or index entries_slot 0 = table_long names index h in
@@ -407,7 +367,7 @@ module _ (names : List (List ℕ)) (index : List ℕ) (h : Indexed names index) 
   pub place-next : (m : ℕ) → m < entries_in index → m + 1 ≤ entries_in index
   place-next m l = omega arith
 
-pub ruleset place-laws = (place-slot, place-first-slot, place-half, place-sought, place_none, place-some, place_same, place-below, place-behind, place_here, place-last, place-inner, place-next)
+pub ruleset place_laws = (place-slot, place-first-slot, place-half, place-sought, place_none, place-some, place_same, place-below, place-behind, place_here, place-last, place-inner, place-next)
 
 -- ---- a position put in its place
 
@@ -475,7 +435,7 @@ module _ (index : List ℕ) (at : ℕ) (long : length index ≡ index_length) (i
       unfolding put_at entries_in
       put-told k j len = rw e
 
-pub ruleset put-laws = (put-n, put-n-fits, put-from, put-room, put-at, put-write_1, put-write_2, put-write_3, put-write_4, put-write_5, put-told)
+pub ruleset put_laws = (put-n, put-n-fits, put-from, put-room, put-at, put-write_1, put-write_2, put-write_3, put-write_4, put-write_5, put-told)
 
 -- ---- one name more
 
@@ -490,7 +450,7 @@ module _ (s t : List ℕ) (count : ℕ) (index : List ℕ) (it : count ≤ lengt
   add-few = omega (arith, h.few, names-long s t count it)
 
   module _ (r : Place) (p : Placing (map (name_at s) (take count t)) (table_in index) name r) where
-    pub add-there : (m : ℕ) → r ≡ There m → Added (map (name_at s) (take count t)) name index false
+    pub add-there : (m : ℕ) → r ≡ Ok m → Added (map (name_at s) (take count t)) name index false
     add-there m e =
         let d : Held (map (name_at s) (take count t)) (table_in index) name m = p.there m e in
         let q : get_or (names_by (map (name_at s) (take count t)) (table_in index)) m [] ≡ name =
@@ -501,10 +461,10 @@ module _ (s t : List ℕ) (count : ℕ) (index : List ℕ) (it : count ≤ lengt
           new = λ f. clash (cc);
         }
 
-    pub add-place : (at : ℕ) → r ≡ Free at → at ≤ entries_in index
+    pub add-place : (at : ℕ) → r ≡ Err at → at ≤ entries_in index
     add-place at e = rw (table_long (map (name_at s) (take count t)) index h) at (p.free at e).within
 
-    pub add-new : (at k j : ℕ) (index' : List ℕ) → r ≡ Free at → Key name 0 k → Key name 8 j → index' ≡ put_at index at count k j (length name)
+    pub add-new : (at k j : ℕ) (index' : List ℕ) → r ≡ Err at → Key name 0 k → Key name 8 j → index' ≡ put_at index at count k j (length name)
         → Added (map (name_at s) (take count t)) name index' true
     add-new at k j index' e kk jj ei =
         let g : Gap (map (name_at s) (take count t)) (table_in index) name at = p.free at e in
@@ -515,7 +475,7 @@ module _ (s t : List ℕ) (count : ℕ) (index : List ℕ) (it : count ≤ lengt
           new = λ f. gap_new (map (name_at s) (take count t)) (table_in index) h.sorted name at g;
         }
 
-pub ruleset add-laws = (add-long, add-few, add-there, add-place, add-new)
+pub ruleset add_laws = (add-long, add-few, add-there, add-place, add-new)
 
 -- ---- java.base first
 
@@ -530,15 +490,9 @@ module _ (names : List (List ℕ)) (index : List ℕ) (h : Indexed names index) 
   unfolding entries_in
   first-half = omega arith
 
-  pub first-there : (name : List ℕ) (r : Place) (m : ℕ) → r ≡ search_at 10 names (table_in index) name 0 (get_or index entries_slot 0 / 2) (length (table_in index)) → r ≡ There m → Indexed names (set index first_slot m)
+  pub first-there : (name : List ℕ) (r : Place) (m : ℕ) → r ≡ search_at 10 names (table_in index) name 0 (get_or index entries_slot 0 / 2) (length (table_in index)) → r ≡ Ok m → Indexed names (set index first_slot m)
   first-there name r m er e =
       let p : Held names (table_in index) name m = (sought-placing names index h (get_or index entries_slot 0 / 2) first-half name r er).there m e in
       indexed-first names index m h (rw (table_long names index h) at p.within)
 
-pub ruleset first-laws = (first-slot, first-index, first-half, first-there)
-
--- ---- the table as it stands
-
-pub entries-is : (index : List ℕ) → get_or index entries_slot 0 ≡ entries_in index
-unfolding entries_in
-entries-is index = refl
+pub ruleset first_laws = (first-slot, first-index, first-half, first-there)

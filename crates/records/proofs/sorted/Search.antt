@@ -16,15 +16,14 @@ use Rattle.records.specs.Order.{is_ordered}
 use Rattle.records.specs.Finder.{find_name, pick_found, find_module, is_first}
 use Rattle.records.specs.Keys.{standing}
 use Rattle.records.specs.Sorted.{name_of_position, names_by, middle_of, by_standing, search_at, found_in, search_ten, is_visible, all_visible, Sorted, Held, Gap, Placing}
-use Rattle.records.specs.declared.finder.Found.TheVariants.{At, Nothing}
-use Rattle.records.specs.declared.sorted.Place.{Place}
-use Rattle.records.specs.declared.sorted.Place.TheVariants.{There, Free}
+use Rattle.records.specs.Sorted.{Place}
 use Rattle.records.proofs.Logic.{clash, by, true≠false, and_left, and_right}
 use Rattle.records.proofs.bytes.Laws.{same-eq}
 use Rattle.records.proofs.bytes.Order.{before-trans, before-total, before-one-way, same-not-before}
 use Rattle.records.proofs.order.Ordered.{ordered-below, mem-none}
 use Rattle.records.proofs.set.Blocks.{GoodSet}
 use Rattle.records.proofs.finder.Modules.{find-is, is_at_lem}
+use Rattle.std.specs.Prelude.{Some, None, Ok, Err}
 
 pub ahead-differs : (a b : List ℕ) → before_bytes a b ≡ true → same_bytes a b ≡ false
 ahead-differs a b h = by (same_bytes a b) (λ e. true≠false h (same-not-before a b e)) (λ e. e)
@@ -88,24 +87,24 @@ module _ (names : List (List ℕ)) where
         (λ e. before-trans n (name_of_position names (get_or l m 0)) (name_of_position names (get_or l i 0)) f (by-below l o m i (ltb-true m i e) k))
         (λ e. let q : m ≡ i = omega (arith, ltb-false m i e) in rw q at f)
 
-  pub placing-there : (l n : List ℕ) (m : ℕ) → m < length l → same_bytes (name_of_position names (get_or l m 0)) n ≡ true → Placing names l n (There m)
+  pub placing-there : (l n : List ℕ) (m : ℕ) → m < length l → same_bytes (name_of_position names (get_or l m 0)) n ≡ true → Placing names l n (Ok m)
   placing-there l n m k e =
       record { there = λ i q. let w : m ≡ i = cc in record { within = rw w at k; same = rw w at e }; free = λ i q. clash (cc) }
 
-  pub placing-free : (l n : List ℕ) (r : ℕ) → Gap names l n r → Placing names l n (Free r)
+  pub placing-free : (l n : List ℕ) (r : ℕ) → Gap names l n r → Placing names l n (Err r)
   placing-free l n r g = record { there = λ i q. clash (cc); free = λ i q. let w : r ≡ i = cc in rw w at g }
 
   search_step : (l n : List ℕ) (m : ℕ) → m < length l → (s₁ s₂ : Place)
       → (before_bytes (name_of_position names (get_or l m 0)) n ≡ true → Placing names l n s₁)
       → (before_bytes n (name_of_position names (get_or l m 0)) ≡ true → Placing names l n s₂)
-      → Placing names l n (by_standing (standing (name_of_position names (get_or l m 0)) n) (There m) s₁ s₂)
+      → Placing names l n (by_standing (standing (name_of_position names (get_or l m 0)) n) (Ok m) s₁ s₂)
   unfolding standing
   search_step l n m k s₁ s₂ f g = go (before_bytes x n) refl (same_bytes x n) refl
     where
       x : List ℕ
       x = name_of_position names (get_or l m 0)
 
-      go : (b : Bool) → before_bytes x n ≡ b → (c : Bool) → same_bytes x n ≡ c → Placing names l n (by_standing (standing x n) (There m) s₁ s₂)
+      go : (b : Bool) → before_bytes x n ≡ b → (c : Bool) → same_bytes x n ≡ c → Placing names l n (by_standing (standing x n) (Ok m) s₁ s₂)
       go true eb c ec = rw eb (f eb)
       go false eb true ec = rw (eb, ec) (placing-there l n m k ec)
       go false eb false ec = rw (eb, ec) (g (before-total x n eb ec))
@@ -119,7 +118,7 @@ module _ (names : List (List ℕ)) where
     pub below : (i : ℕ) → i < low → before_bytes (name_of_position names (get_or l i 0)) n ≡ true
     pub above : (i : ℕ) → high ≤ i → i < length l → before_bytes n (name_of_position names (get_or l i 0)) ≡ true
 
-  pub part_empty : (l n : List ℕ) (low high : ℕ) → Part l n low high → high ≤ low → Placing names l n (Free low)
+  pub part_empty : (l n : List ℕ) (low high : ℕ) → Part l n low high → high ≤ low → Placing names l n (Err low)
   part_empty l n low high p h = placing-free l n low (record { within = omega (arith, p.order, p.within); below = p.below; above = λ i k. p.above i (omega arith) })
 
   pub part_all : (l n : List ℕ) → Part l n 0 (length l)
@@ -169,17 +168,17 @@ module _ (names : List (List ℕ)) where
 
   -- ---- against the walk from the front
 
-  pub not_found : (l : List (List ℕ)) (n : List ℕ) (i : ℕ) → mem_name n l ≡ false → find_name l n i ≡ Nothing
+  pub not_found : (l : List (List ℕ)) (n : List ℕ) (i : ℕ) → mem_name n l ≡ false → find_name l n i ≡ None
   unfolding find_name mem_name
   not_found [] n i h = refl
   not_found (m ∷ l) n i h = go (same_bytes m n) refl (not_found l n (suc i)) h
     where
-      go : (b : Bool) → same_bytes m n ≡ b → (mem_name n l ≡ false → find_name l n (suc i) ≡ Nothing) → (b || mem_name n l) ≡ false → pick_found b (At i) (find_name l n (suc i)) ≡ Nothing
+      go : (b : Bool) → same_bytes m n ≡ b → (mem_name n l ≡ false → find_name l n (suc i) ≡ None) → (b || mem_name n l) ≡ false → pick_found b (Some i) (find_name l n (suc i)) ≡ None
       go true eb ih e = clash (cc)
       go false eb ih e = ih e
 
   -- a visible position is found by its name
-  pub visible_at : (p : ℕ) → is_visible names p ≡ true → find_name names (name_of_position names p) 0 ≡ At p
+  pub visible_at : (p : ℕ) → is_visible names p ≡ true → find_name names (name_of_position names p) 0 ≡ Some p
   unfolding is_visible is_first
   visible_at p h = is_at_lem (find_name names (name_of_position names p) 0) p h
 
@@ -203,11 +202,11 @@ module _ (names : List (List ℕ)) where
     -- what stands in the table is what the walk finds
     pub placing_found : (n : List ℕ) (r : Place) → Placing names l n r → found_in l r ≡ find_name names n 0
     unfolding found_in
-    placing_found n (There m) p =
+    placing_found n (Ok m) p =
         let d : Held names l n m = p.there m refl in
-        let v : find_name names (name_of_position names (get_or l m 0)) 0 ≡ At (get_or l m 0) = visible_at (get_or l m 0) (all_visible_at l m h.visible d.within) in
+        let v : find_name names (name_of_position names (get_or l m 0)) 0 ≡ Some (get_or l m 0) = visible_at (get_or l m 0) (all_visible_at l m h.visible d.within) in
         sym (rw (same-eq (name_of_position names (get_or l m 0)) n d.same) at v)
-    placing_found n (Free k) p = sym (not_found names n 0 (gap_new n k (p.free k refl)))
+    placing_found n (Err k) p = sym (not_found names n 0 (gap_new n k (p.free k refl)))
 
     -- k halvings are enough for a table shorter than 2 ^ k
     pub sorted_halves : (k : ℕ) (n : List ℕ) → length l < 2 ^ k → found_in l (search_at k names l n 0 (middle_of 0 (length l)) (length l)) ≡ find_name names n 0

@@ -3,6 +3,3 @@ use Rattle.records.proofs.automatic.strip_version_suffix.Given as goal
 
 abbrev pub invariant-loop-i : goal.invariant-loop-i
 invariant-loop-i l = VersionAt l.s l.i
-
-abbrev pub decreases-loop-i : goal.decreases-loop-i
-decreases-loop-i l = l.i

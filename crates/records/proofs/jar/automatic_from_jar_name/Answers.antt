@@ -1,24 +1,18 @@
-use Rattle.records.proofs.jar.Laws.{jar_laws}
-use borrow.Author.Rules.{rules}
+use Rattle.std.proofs.Common.{rules}
+use Rattle.std.proofs.lemmas.Result.{err_from_is_err_and}
+use Rattle.records.proofs.jar.Laws.{jar_laws, jar_packages}
 use Rattle.records.proofs.jar.automatic_from_jar_name.Goals as goal
 
 pub returns-then-jar-gt255 : goal.returns-then-jar-gt255
 returns-then-jar-gt255 c = search (jar_laws, rules)
 
-pub check_records-requires : goal.check_records-requires
-check_records-requires c = search (jar_laws, rules)
+pub returns-in_err-check_records : goal.returns-in_err-check_records
+returns-in_err-check_records c =
+    let p = err_from_is_err_and c.from_residual.result c.from_residual.ensures.1 in
+    jar_packages _ _ _ _ _ (search rules) _ _ c.in_err-check_records.ensures (rw (p.1, p.2))
 
-pub write_given-requires : goal.write_given-requires
-write_given-requires c = search (jar_laws, rules)
+pub returns-in-Some : goal.returns-in-Some
+returns-in-Some c = rw c.in-Some.is (search (jar_laws, c.in_ok-check_records.ensures, rules))
 
-pub returns-then-given : goal.returns-then-given
-returns-then-given c = search (jar_laws, rules)
-
-pub write_derived-requires : goal.write_derived-requires
-write_derived-requires c = search (jar_laws, rules)
-
-pub returns-in-Refused : goal.returns-in-Refused
-returns-in-Refused c = search (jar_laws, rules)
-
-pub returns-else-given : goal.returns-else-given
-returns-else-given c = search (jar_laws, rules)
+pub returns-in-None : goal.returns-in-None
+returns-in-None c = rw c.in-None.is (search (jar_laws, c.in_ok-check_records.ensures, rules))

@@ -1,21 +1,12 @@
-use Rattle.records.proofs.jar.Laws.{derived-laws}
-use borrow.Author.Rules.{rules}
+use Rattle.std.proofs.Common.{rules}
+use Rattle.std.proofs.lemmas.Result.{err_from_is_err_and}
+use Rattle.records.proofs.jar.Laws.{derived_laws, derived-bad}
 use Rattle.records.proofs.jar.write_derived.Goals as goal
 
-pub derive_automatic_module_name-d-requires : goal.derive_automatic_module_name-d-requires
-derive_automatic_module_name-d-requires c = search (derived-laws, rules)
+pub returns-in_err-text : goal.returns-in_err-text
+returns-in_err-text c =
+    let p = err_from_is_err_and c.from_residual.result c.from_residual.ensures.1 in
+    derived-bad _ _ _ (search rules) _ _ c.in_err-text.ensures (rw (p.1, p.2))
 
-pub slice_bounds-head-end : goal.slice_bounds-head-end
-slice_bounds-head-end c = search (derived-laws, rules)
-
-pub head-requires : goal.head-requires
-head-requires c = search (derived-laws, rules)
-
-pub write_fitted-requires : goal.write_fitted-requires
-write_fitted-requires c = search (derived-laws, rules)
-
-pub returns-in-Refused : goal.returns-in-Refused
-returns-in-Refused c = search (derived-laws, rules)
-
-pub returns-in-Valid : goal.returns-in-Valid
-returns-in-Valid c = search (derived-laws, rules)
+pub returns : goal.returns
+returns c = search (derived_laws, c.in_ok-text.ensures, rules)

@@ -1,12 +1,7 @@
-use Rattle.records.proofs.keys.Laws.{key-is}
-use borrow.Author.Rules.{rules}
+use Rattle.records.proofs.keys.Laws.{key_read}
 use Rattle.records.proofs.keys.short_key.Goals as goal
 
-pub overflow_mul-result : goal.overflow_mul-result
-overflow_mul-result c = search (key-is, rules)
-
-pub overflow_add-result : goal.overflow_add-result
-overflow_add-result c = search (key-is, rules)
-
 pub returns : goal.returns
-returns c = search (key-is, rules)
+returns c =
+    key_read c.args.s.now 0 _ _ _ _ _ _ _ _ c.byte.ensures.value c.byte-2.ensures.value c.byte-3.ensures.value c.byte-4.ensures.value c.byte-5.ensures.value c.byte-6.ensures.value c.byte-7.ensures.value c.byte-8.ensures.value
+    c.from_be_bytes.result (λ i. (c.type_inv.s i).fits) c.from_be_bytes.ensures

@@ -1,30 +1,17 @@
-use Rattle.records.proofs.order.Laws.{insert-laws}
-use borrow.Author.Rules.{rules}
+use Rattle.std.proofs.Common.{◌∙◌, ◌≤◌, length, arith}
+use Rattle.records.proofs.order.Laws.{inserted-none, inserted_new, placed_front, stands_front}
 use Rattle.records.proofs.order.insert.Goals as goal
 
-pub name_in-name-requires : goal.name_in-name-requires
-name_in-name-requires c = search (insert-laws, rules)
-
-pub place-at-requires : goal.place-at-requires
-place-at-requires c = search (insert-laws, rules)
-
-pub stands_at-requires : goal.stands_at-requires
-stands_at-requires c = search (insert-laws, rules)
-
 pub returns-then-stands_at : goal.returns-then-stands_at
-returns-then-stands_at c = search (insert-laws, rules)
-
-pub shift-requires : goal.shift-requires
-shift-requires c = search (insert-laws, rules)
-
-pub offset_bounds-table-at : goal.offset_bounds-table-at
-offset_bounds-table-at c = search (insert-laws, rules)
-
-pub bounds-table-at : goal.bounds-table-at
-bounds-table-at c = search (insert-laws, rules)
-
-pub overflow_add-result : goal.overflow_add-result
-overflow_add-result c = search (insert-laws, rules)
+returns-then-stands_at c =
+    let l : c.args.count ≤ length c.args.table.now = omega arith in
+    inserted-none c.args.s.now c.args.table.now c.args.count c.args.entry c.name_in-name.result.now c.place-at.result c.stands_at.result c.requires.count_in_bounds c.requires.table_value c.name_in-name.ensures
+    (placed_front c.args.s.now c.args.table.now c.name_in-name.result.now c.args.count c.place-at.result l c.place-at.ensures)
+    (c.stands_at.ensures ∙ stands_front c.args.s.now c.args.table.now c.args.count c.place-at.result c.name_in-name.result.now l) c.if-stands_at.true
 
 pub returns : goal.returns
-returns c = search (insert-laws, rules)
+returns c =
+    let l : c.args.count ≤ length c.args.table.now = omega arith in
+    inserted_new c.args.s.now c.args.table.now c.args.count c.args.entry c.name_in-name.result.now c.place-at.result c.stands_at.result c.requires.count_in_bounds c.requires.table_value c.name_in-name.ensures
+    (placed_front c.args.s.now c.args.table.now c.name_in-name.result.now c.args.count c.place-at.result l c.place-at.ensures)
+    (c.stands_at.ensures ∙ stands_front c.args.s.now c.args.table.now c.args.count c.place-at.result c.name_in-name.result.now l) c.shift.new.table c.shift.ensures c.if-stands_at.false

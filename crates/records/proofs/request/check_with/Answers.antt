@@ -1,27 +1,17 @@
-use Rattle.records.proofs.request.Laws.{inputs-laws}
-use borrow.Author.Rules.{rules}
+use Rattle.std.proofs.Common.{rules}
+use Rattle.std.proofs.lemmas.Result.{err_from_is_err_and}
+use Rattle.records.proofs.request.Laws.{inputs_laws}
 use Rattle.records.proofs.request.check_with.Goals as goal
 
-pub refuse-requires : goal.refuse-requires
-refuse-requires c = search (inputs-laws, rules)
+pub returns-in_err-checked-clause-value : goal.returns-in_err-checked-clause-value
+returns-in_err-checked-clause-value c =
+    let p = err_from_is_err_and c.from_residual.result c.from_residual.ensures.1 in
+    rw (p.1, p.2) (search (inputs_laws, c.in_err-checked.ensures.value, rules))
 
-pub returns-then-request-gt65535 : goal.returns-then-request-gt65535
-returns-then-request-gt65535 c = search (inputs-laws, rules)
+pub returns-in_err-check_records-clause-value : goal.returns-in_err-check_records-clause-value
+returns-in_err-check_records-clause-value c =
+    let p = err_from_is_err_and c.from_residual-in_err-check_records.result c.from_residual-in_err-check_records.ensures.1 in
+    rw (p.1, p.2) (search (inputs_laws, c.in_ok-checked.ensures.value, c.in_err-check_records.ensures, rules))
 
-pub check_set_with-c-requires : goal.check_set_with-c-requires
-check_set_with-c-requires c = search (inputs-laws, rules)
-
-pub check_records-requires : goal.check_records-requires
-check_records-requires c = search (inputs-laws, rules)
-
-pub refuse-requires-in-Refused-check_records : goal.refuse-requires-in-Refused-check_records
-refuse-requires-in-Refused-check_records c = search (inputs-laws, rules)
-
-pub returns-in-Refused : goal.returns-in-Refused
-returns-in-Refused c = search (inputs-laws, rules)
-
-pub returns-in-Good : goal.returns-in-Good
-returns-in-Good c = search (inputs-laws, rules)
-
-pub returns-in-Refused-check_records : goal.returns-in-Refused-check_records
-returns-in-Refused-check_records c = search (inputs-laws, rules)
+pub returns-clause-value : goal.returns-clause-value
+returns-clause-value c = search (inputs_laws, c.in_ok-checked.ensures.value, c.in_ok-check_records.ensures, rules)
