@@ -1,5 +1,4 @@
 pub mod Cases
-pub mod Fields
 pub mod Inner
 pub mod Items
 pub mod Lowest

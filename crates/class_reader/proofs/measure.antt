@@ -1,3 +1,2 @@
 pub mod Laws
 pub mod Module
-pub mod Tables

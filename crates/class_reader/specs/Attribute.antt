@@ -1,5 +1,5 @@
 -- The attributes of a class file (JVM Specification 4.7): where they stand, which are read, and what is at fault in them.
-use Rattle.std.specs.Prelude.{ℕ, zero, suc, ◌+◌, ◌*◌, List, [], ◌∷◌, ◌++◌, map, Bool, true, false, cond, ◌&&◌, length, ltb, leb, eqb}
+use Rattle.std.specs.Prelude.{ℕ, zero, suc, ◌+◌, ◌*◌, List, [], ◌∷◌, ◌++◌, map, Bool, true, false, cond, ◌&&◌, length, leb, eqb, Option, Some, None, is_some, is_none, unwrap_or}
 use Rattle.records.specs.Bytes.{same_bytes, u16_at}
 use Rattle.records.specs.Order.{ordered}
 use Rattle.records.specs.Output.{name_bytes}
@@ -51,29 +51,29 @@ contents_good ModulePackages f t p end = table_good Entry.Package f t p && eqb (
 contents_good ModuleMainClass f t p end = is_entry Entry.MainClass f t p && eqb (p + 2) end
 contents_good Other f t p end = true
 
--- ---- the ones met: where each of the three stands, 0 where it was not met. A second one is a fault
+-- ---- the ones met: where each of the three stands. A second one is a fault
 
 abbrev pub nothing_seen : Seen
-nothing_seen = record { descriptor = 0; packages = 0; main = 0 }
+nothing_seen = record { descriptor = None; packages = None; main = None }
 
-unfoldable pub seen_at : Attribute → Seen → ℕ
+unfoldable pub seen_at : Attribute → Seen → Option ℕ
 seen_at Module s = s.descriptor
 seen_at ModulePackages s = s.packages
 seen_at ModuleMainClass s = s.main
-seen_at Other s = 0
+seen_at Other s = None
 
 -- the one at `at` is met
 unfoldable pub see : Attribute → ℕ → Seen → Seen
-see Module at s = record { descriptor = at; packages = s.packages; main = s.main }
-see ModulePackages at s = record { descriptor = s.descriptor; packages = at; main = s.main }
-see ModuleMainClass at s = record { descriptor = s.descriptor; packages = s.packages; main = at }
+see Module at s = record { descriptor = Some at; packages = s.packages; main = s.main }
+see ModulePackages at s = record { descriptor = s.descriptor; packages = Some at; main = s.main }
+see ModuleMainClass at s = record { descriptor = s.descriptor; packages = s.packages; main = Some at }
 see Other at s = s
 
 -- the attribute at `at` is good: its name is a Utf8, it is no second one of the three, its contents are good
 unfoldable pub attribute_good : List ℕ → List ℕ → Seen → ℕ → Bool
 attribute_good f t s at =
     is_tag 1 f t (u16_at f at)
-    && (eqb (seen_at (attribute_at f t at) s) 0 && contents_good (attribute_at f t at) f t (at + 6) (attribute_end f at))
+    && (is_none (seen_at (attribute_at f t at) s) && contents_good (attribute_at f t at) f t (at + 6) (attribute_end f at))
 
 -- ---- n attributes, from `at` on
 
@@ -83,7 +83,7 @@ fault_unless good at = cond good [] (at ∷ [])
 
 -- behind the last attribute: the first byte left over, and the file's length where Module is missing
 unfoldable pub end_faults : List ℕ → Seen → ℕ → List ℕ
-end_faults f s at = fault_unless (eqb at (length f)) at ++ fault_unless (ltb 0 s.descriptor) (length f)
+end_faults f s at = fault_unless (eqb at (length f)) at ++ fault_unless (is_some s.descriptor) (length f)
 
 -- the offset of each fault. Behind an attribute that is cut off there is no place for another
 unfoldable pub attribute_faults : List ℕ → List ℕ → ℕ → Seen → ℕ → List ℕ
@@ -98,26 +98,32 @@ unfoldable pub seen_from : List ℕ → List ℕ → ℕ → Seen → ℕ → Se
 seen_from f t zero s at = s
 seen_from f t (suc n) s at = seen_from f t n (see (attribute_at f t at) at s) (attribute_end f at)
 
--- ---- the records of the three, 0 where there is none
+-- ---- the records of the three
 
 unfoldable pub module_items : List ℕ → List ℕ → ℕ → List Item
 module_items f t p = entry_item Entry.Module f t p ∷ tables_items f t module_tables (p + 6)
 
 -- the packages of a ModulePackages attribute
-unfoldable pub package_names : List ℕ → List ℕ → ℕ → List (List ℕ)
-package_names f t at = cond (eqb at 0) [] (names_at f t (u16_at f (at + 6)) (at + 8))
+unfoldable pub package_names : List ℕ → List ℕ → Option ℕ → List (List ℕ)
+package_names f t None = []
+package_names f t (Some at) = names_at f t (u16_at f (at + 6)) (at + 8)
 
 -- a PK record
 unfoldable pub package_item : List ℕ → Item
 package_item n = record { kind = Kind.Package; body = name_bytes n }
 
 -- PK in byte order without repeats
-unfoldable pub package_items : List ℕ → List ℕ → ℕ → List Item
+unfoldable pub package_items : List ℕ → List ℕ → Option ℕ → List Item
 package_items f t at = map package_item (ordered (package_names f t at))
 
-unfoldable pub main_items : List ℕ → List ℕ → ℕ → List Item
-main_items f t at = cond (eqb at 0) [] (entry_item Entry.MainClass f t (at + 6) ∷ [])
+unfoldable pub main_items : List ℕ → List ℕ → Option ℕ → List Item
+main_items f t None = []
+main_items f t (Some at) = entry_item Entry.MainClass f t (at + 6) ∷ []
+
+-- where a Module attribute that was met has its contents
+abbrev pub module_at : Seen → ℕ
+module_at s = unwrap_or s.descriptor 0 + 6
 
 -- the records of a descriptor: MO, RQ, EX, OP, US, PV in file order, PK, MC
 unfoldable pub descriptor_items : List ℕ → List ℕ → Seen → List Item
-descriptor_items f t s = module_items f t (s.descriptor + 6) ++ (package_items f t s.packages ++ main_items f t s.main)
+descriptor_items f t s = module_items f t (module_at s) ++ (package_items f t s.packages ++ main_items f t s.main)

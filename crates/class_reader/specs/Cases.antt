@@ -4,8 +4,8 @@
 use Rattle.std.specs.Prelude.{ℕ, List, [], ◌∷◌, ◌++◌, length, take, replicate}
 use Rattle.records.specs.Name.{all_unnamed}
 use Rattle.records.specs.declared.error.ModuleError.TheVariants.{OutputTooShort, DescriptorParseError}
-use Rattle.records.specs.declared.jar.Written.TheVariants.{Bytes, Refused}
 use Rattle.class_reader.specs.ClassFile.{ClassRead}
+use Rattle.std.specs.Prelude.{Ok, Err}
 
 -- ---- the parts of a class file
 
@@ -111,27 +111,27 @@ full_records =
 
 -- the file is malformed at this offset, and the output stays as it was
 abbrev pub MalformedAt : List ℕ → ℕ → Type 0
-MalformedAt f at = ClassRead f (replicate 12 9) (replicate 12 9) (Refused (DescriptorParseError at))
+MalformedAt f at = ClassRead f (replicate 12 9) (replicate 12 9) (Err (DescriptorParseError at))
 
 pub record ClassCases : Type 0 where
   -- the whole output: the records, and the bytes past them as they were
-  pub small : ClassRead smallest (replicate 12 9) (smallest_records ++ (9 ∷ 9 ∷ [])) (Bytes 10)
+  pub small : ClassRead smallest (replicate 12 9) (smallest_records ++ (9 ∷ 9 ∷ [])) (Ok 10)
   -- "MO, RQ, EX, OP, US, PV in file order, PK in byte order without repeats, MC"; "Undefined flag bits become 0"; "Attributes other
   -- than the three named next are skipped"; "Long and double constants take two indices"
-  pub whole : ClassRead full (replicate 73 9) (full_records ++ (9 ∷ [])) (Bytes 72)
+  pub whole : ClassRead full (replicate 73 9) (full_records ++ (9 ∷ [])) (Ok 72)
   -- 4: the bytes needed
-  pub short : ClassRead smallest (replicate 9 9) (replicate 9 9) (Refused (OutputTooShort 10))
+  pub short : ClassRead smallest (replicate 9 9) (replicate 9 9) (Err (OutputTooShort 10))
   -- "Offset of 8": "0 before the constant pool": a wrong magic, a major version below 53
   pub magic : MalformedAt (head 0xCB 53 6 ++ small_pool ++ fields 2 1 ++ plain 5) 0
   pub version : MalformedAt (head 0xCA 52 6 ++ small_pool ++ fields 2 1 ++ plain 5) 0
   -- "Long and double constants take two indices"
-  pub double : ClassRead (head 0xCA 53 8 ++ small_pool ++ (6 ∷ replicate 8 0xFF) ++ fields 2 1 ++ plain 5) (replicate 10 9) smallest_records (Bytes 10)
+  pub double : ClassRead (head 0xCA 53 8 ++ small_pool ++ (6 ∷ replicate 8 0xFF) ++ fields 2 1 ++ plain 5) (replicate 10 9) smallest_records (Ok 10)
   -- "the constant .. at fault": one that is cut off; one too many, where 0x80 of the flags is no tag
   pub constant : MalformedAt (take 42 smallest) 40
   pub tag : MalformedAt (head 0xCA 53 7 ++ small_pool ++ fields 2 1 ++ plain 5) 43
   -- Dynamic (17) is there since major version 55
   pub dynamic : MalformedAt (head 0xCA 54 7 ++ small_pool ++ (17 ∷ 0 ∷ 0 ∷ 0 ∷ 0 ∷ []) ++ fields 2 1 ++ plain 5) 43
-  pub dynamic_defined : ClassRead (head 0xCA 55 7 ++ small_pool ++ (17 ∷ 0 ∷ 0 ∷ 0 ∷ 0 ∷ []) ++ fields 2 1 ++ plain 5) (replicate 10 9) smallest_records (Bytes 10)
+  pub dynamic_defined : ClassRead (head 0xCA 55 7 ++ small_pool ++ (17 ∷ 0 ∷ 0 ∷ 0 ∷ 0 ∷ []) ++ fields 2 1 ++ plain 5) (replicate 10 9) smallest_records (Ok 10)
   -- "the pool's end for fields between pool and attributes": "access flags 0x8000, this_class module-info, no super, interfaces, fields
   -- or methods". this_class is no Class, or another
   pub flags : MalformedAt (head 0xCA 53 6 ++ small_pool ++ fields_with 1 2 0 0 0 0 1 ++ plain 5) 43

@@ -3,7 +3,6 @@ use Rattle.std.specs.Prelude.{ℕ, ◌+◌, ◌-◌, ◌≤◌, ◌≡◌, List,
 use Rattle.records.specs.Order.{all_short}
 use Rattle.records.specs.Output.{written, two_bytes}
 use Rattle.class_reader.specs.Entry.{Item, names_at, names_bytes, bytes_of, is_large}
-use Rattle.class_reader.specs.declared.output.Placed.{Placed}
 
 -- there is room at `at` for the names of n indices from p on, which are short
 pub record NamesRoom (o : List ℕ) (at : ℕ) (f t : List ℕ) (n p : ℕ) : Type 0 where
@@ -22,8 +21,8 @@ pub record Marked (o : List ℕ) (at mark end : ℕ) (out : List ℕ) (r : ℕ) 
   pub place : r ≡ end
   pub bytes : out ≡ written o at (two_bytes mark ++ two_bytes (end - (at + 4)))
 
--- these records were written at `at`, and r tells the place behind them, and that the file was read up to `next`
-pub record PutItems (o : List ℕ) (at : ℕ) (is : List Item) (next : ℕ) (out : List ℕ) (r : Placed) : Type 0 where
-  pub place : r.at ≡ at + length (bytes_of is)
-  pub behind : r.next ≡ next
+-- these records were written at `at`, up to r, and the file was read up to `next`
+pub record PutItems (o : List ℕ) (at : ℕ) (is : List Item) (next : ℕ) (out : List ℕ) (r q : ℕ) : Type 0 where
+  pub place : r ≡ at + length (bytes_of is)
+  pub behind : q ≡ next
   pub bytes : out ≡ written o at (bytes_of is)

@@ -1,9 +1,8 @@
 -- The constant pool (JVM Specification 4.4): where its constants stand, and the texts and names that they give.
-use Rattle.std.specs.Prelude.{ℕ, zero, suc, ◌+◌, ◌-◌, List, [], ◌∷◌, Bool, true, false, cond, ◌&&◌, ◌||◌, not, length, get_or, take, drop, ltb, leb, eqb}
+use Rattle.std.specs.Prelude.{ℕ, zero, suc, ◌+◌, ◌-◌, List, [], ◌∷◌, Bool, true, false, cond, ◌&&◌, ◌||◌, not, length, get_or, take, drop, ltb, leb, eqb, Result, Ok, Err}
 use Rattle.records.specs.Bytes.{u16_at}
 use Rattle.records.specs.Name.{printable}
-use Rattle.class_reader.specs.declared.pool.Pool.{Pool}
-use Rattle.class_reader.specs.declared.pool.Pool.TheVariants.{End, Fault}
+use Rattle.class_reader.specs.declared.pool.Fault.{Fault}
 
 -- ---- one constant
 
@@ -41,16 +40,12 @@ is_constant f left at = is_defined f at && (leb (at + width_at f at) (length f) 
 
 -- ---- all of them
 
-abbrev pub pick_pool : Bool → Pool → Pool → Pool
-pick_pool true a b = a
-pick_pool false a b = b
-
 -- the pool's end, or the constant at fault, where n indices are left and the next constant stands at `at`; `second` says that the
 -- next index is the second one of the constant before
-unfoldable pub pool_from : List ℕ → ℕ → Bool → ℕ → Pool
-pool_from f zero second at = End at
+unfoldable pub pool_from : List ℕ → ℕ → Bool → ℕ → Result ℕ Fault
+pool_from f zero second at = Ok at
 pool_from f (suc n) true at = pool_from f n false at
-pool_from f (suc n) false at = pick_pool (is_constant f (suc n) at) (pool_from f n (takes_two f at) (at + width_at f at)) (Fault at)
+pool_from f (suc n) false at = cond (is_constant f (suc n) at) (pool_from f n (takes_two f at) (at + width_at f at)) (Err (record { at = at }))
 
 -- where the constants stand, one for each of these indices; 0 for an index that has none
 unfoldable pub offsets_from : List ℕ → ℕ → Bool → ℕ → List ℕ
@@ -63,7 +58,7 @@ unfoldable pub pool_count : List ℕ → ℕ
 pool_count f = u16_at f 8
 
 -- the pool of the file: its end or its fault
-unfoldable pub pool_end : List ℕ → Pool
+unfoldable pub pool_end : List ℕ → Result ℕ Fault
 pool_end f = pool_from f (pool_count f - 1) false 10
 
 -- the pool of the file: where the constant of each index stands

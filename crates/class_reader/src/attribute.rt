@@ -1,12 +1,12 @@
 // The attributes: where each stands, which are read, and the first one at fault.
-ghost use Rattle.std.specs.Prelude.{◌≡◌, ◌+◌, ◌≤◌, length};
+ghost use Rattle.std.specs.Prelude.{◌≡◌, ◌+◌, ◌≤◌, length, Ok, Err, IfOk, IfSome};
 ghost use Rattle.class_reader.specs.Attribute.{attribute_named, attribute_end, seen_at, see, nothing_seen};
 ghost use Rattle.class_reader.specs.Measure.{Small};
-ghost use Rattle.class_reader.specs.Walk.{measure_contents, keep, measured_in, walk_named, walk_one, walk_end, walk_from};
+ghost use Rattle.class_reader.specs.Walk.{measure_contents, keep, Light, walk_named, walk_one, walk_end, walk_from};
 
 use crate::entry::Entry;
 use crate::measure::{Measured, measure, measure_module, measure_table};
-use crate::pool::{is_tag, text};
+use crate::pool::{ClassFile, Fault};
 use records::bytes::{be16, same};
 
 // The three attributes that are read, and all others.
@@ -18,211 +18,192 @@ pub enum Attribute {
     Other,
 }
 
-// Where each of the three stands, 0 where it was not met.
+// Where each of the three stands, if it was met.
 #[derive(Clone, Copy)]
 pub struct Seen {
-    pub descriptor: usize,
-    pub packages: usize,
-    pub main: usize,
+    pub descriptor: Option<usize>,
+    pub packages: Option<usize>,
+    pub main: Option<usize>,
 }
 
-// What was met, and what the contents of its Module attribute measure; or the offset of the first fault.
+// What was met, and the bytes of the records of its Module attribute: None where the body of one is over 65,535 bytes.
 #[derive(Clone, Copy)]
-pub enum Walked {
-    Found(Seen, Measured),
-    Fault(usize),
+pub struct Walked {
+    pub seen: Seen,
+    pub size: Option<usize>,
 }
 
 // The attribute of this name.
+#[tactic(auto, unfolding(crate::specs::Attribute::attribute_named))]
 fn attribute_named(s: &[u8]) -> Attribute
     ensures { result ≡ attribute_named s.now }
 {
     if same(s, b"Module") {
-        return Attribute::Module;
+        Attribute::Module
+    } else if same(s, b"ModulePackages") {
+        Attribute::ModulePackages
+    } else if same(s, b"ModuleMainClass") {
+        Attribute::ModuleMainClass
+    } else {
+        Attribute::Other
     }
-    if same(s, b"ModulePackages") {
-        return Attribute::ModulePackages;
-    }
-    if same(s, b"ModuleMainClass") {
-        return Attribute::ModuleMainClass;
-    }
-    Attribute::Other
 }
 
 // Where the attribute at `at` ends.
+#[tactic(auto, unfolding(crate::specs::Attribute::attribute_end))]
 fn attribute_end(file: &[u8], at: usize) -> usize
     requires { at ≤ 65535 }
-    ensures { result ≡ attribute_end file.now at }
+    ensures value { result ≡ attribute_end file.now at }
+    ensures behind { at + 6 ≤ result }
 {
     at + 6 + (be16(file, at + 2) * 65536 + be16(file, at + 4))
 }
 
-// What the contents from p up to `end` measure.
-fn measure_contents(file: &[u8], pool: &[u16], a: Attribute, p: usize, end: usize) -> Measured
-    requires file_len_bound { length file.now ≤ 65535 }
-    requires p_in_bounds { p ≤ length file.now }
-    requires end_in_bounds { end ≤ length file.now }
-    ensures value { result ≡ measure_contents a file.now pool.now p end }
-    ensures small { Small file.now result }
-{
-    let from = Measured {
-        next: p,
-        size: 0,
-        large: false,
-    };
-    match a {
-        Attribute::Module => measure_module(file, pool, p),
-        Attribute::ModulePackages => measure_table(file, pool, Entry::Package, from),
-        Attribute::ModuleMainClass => measure(file, pool, Entry::MainClass, 1, from),
-        Attribute::Other => Measured {
-            next: end,
-            size: 0,
-            large: false,
-        },
-    }
-}
-
-// What the contents of Module measure: k if this attribute is Module, else m as before.
-fn keep(a: Attribute, m: Measured, k: Measured) -> Measured
-    ensures { result ≡ keep a m k }
+// What the contents from p up to `end` measure, if they are good.
+#[tactic(auto, unfolding(crate::specs::Walk::measure_contents))]
+fn measure_contents(class: ClassFile, a: Attribute, p: usize, end: usize) -> Option<Measured>
+    requires p_in_bounds { p ≤ length class.file.now }
+    requires end_in_bounds { end ≤ length class.file.now }
+    ensures value { result ≡ measure_contents a class.entry.file.now class.entry.pool.now p end }
+    ensures small { IfSome result (λ measured. Small class.entry.file.now measured) }
 {
     match a {
-        Attribute::Module => k,
-        Attribute::ModulePackages => m,
-        Attribute::ModuleMainClass => m,
-        Attribute::Other => m,
+        Attribute::Module => measure_module(class, p),
+        Attribute::ModulePackages => measure_table(class, Entry::Package, Measured::nothing(p)),
+        Attribute::ModuleMainClass => measure(class, Entry::MainClass, 1, Measured::nothing(p)),
+        Attribute::Other => Some(Measured::nothing(end)),
     }
 }
 
 impl Seen {
     // Where this one stands.
-    fn at(self, a: Attribute) -> usize
+    #[tactic(auto, unfolding(crate::specs::Attribute::seen_at))]
+    fn at(self, a: Attribute) -> Option<usize>
         ensures { result ≡ seen_at a self }
     {
         match a {
             Attribute::Module => self.descriptor,
             Attribute::ModulePackages => self.packages,
             Attribute::ModuleMainClass => self.main,
-            Attribute::Other => 0,
+            Attribute::Other => None,
         }
     }
+}
 
-    // This one is met.
-    fn see(self, a: Attribute, at: usize) -> Seen
-        ensures { result ≡ see a at self }
+impl Walked {
+    // This one is met, whose contents measure `size`.
+    #[tactic(auto, unfolding(crate::specs::Attribute::see, crate::specs::Walk::keep))]
+    fn meet(self, a: Attribute, at: usize, size: Option<usize>) -> Walked
+        ensures { result ≡ record { seen = see a at self.seen; size = keep a self.size size } }
     {
+        let seen = self.seen;
         match a {
-            Attribute::Module => Seen {
-                descriptor: at,
-                packages: self.packages,
-                main: self.main,
+            Attribute::Module => Walked {
+                seen: Seen {
+                    descriptor: Some(at),
+                    ..seen
+                },
+                size,
             },
-            Attribute::ModulePackages => Seen {
-                descriptor: self.descriptor,
-                packages: at,
-                main: self.main,
+            Attribute::ModulePackages => Walked {
+                seen: Seen {
+                    packages: Some(at),
+                    ..seen
+                },
+                ..self
             },
-            Attribute::ModuleMainClass => Seen {
-                descriptor: self.descriptor,
-                packages: self.packages,
-                main: at,
+            Attribute::ModuleMainClass => Walked {
+                seen: Seen {
+                    main: Some(at),
+                    ..seen
+                },
+                ..self
             },
             Attribute::Other => self,
         }
     }
 }
 
-// The attribute from `at` up to `end`, which is a; m is what the contents of Module measured before.
+// The attribute from `at` up to `end`, which is a.
+#[tactic(auto, using(crate::proofs::attribute::Laws::contents_good_lem, crate::proofs::attribute::Laws::keep_light), unfolding(crate::specs::Walk::walk_named))]
 fn walk_named(
-    file: &[u8],
-    pool: &[u16],
-    seen: Seen,
-    m: Measured,
+    class: ClassFile,
+    walked: Walked,
     a: Attribute,
     at: usize,
     end: usize,
-) -> Walked
-    requires file_len_bound { length file.now ≤ 65535 }
+) -> Result<Walked, Fault>
     requires at_bound { at + 6 ≤ end }
-    requires end_in_bounds { end ≤ length file.now }
-    requires small { Small file.now m }
-    ensures value { result ≡ walk_named a file.now pool.now seen m at end }
-    ensures small_result { Small file.now (measured_in result) }
+    requires end_in_bounds { end ≤ length class.file.now }
+    requires light { Light walked.size }
+    ensures value { result ≡ walk_named a class.entry.file.now class.entry.pool.now walked at end }
+    ensures light_result { IfOk result (λ w. Light w.size) }
 {
-    if seen.at(a) != 0 {
-        return Walked::Fault(at);
+    if walked.seen.at(a).is_some() {
+        return Err(Fault { at });
     }
-    let k = measure_contents(file, pool, a, at + 6, end);
-    if k.next != end {
-        return Walked::Fault(at);
+    let Some(contents) = measure_contents(class, a, at + 6, end) else {
+        return Err(Fault { at });
+    };
+    if contents.next != end {
+        return Err(Fault { at });
     }
-    Walked::Found(seen.see(a, at), keep(a, m, k))
+    Ok(walked.meet(a, at, contents.size))
 }
 
 // The attribute from `at` up to `end`.
-fn walk_one(file: &[u8], pool: &[u16], seen: Seen, m: Measured, at: usize, end: usize) -> Walked
-    requires file_len_bound { length file.now ≤ 65535 }
-    requires end_value { end ≡ attribute_end file.now at }
-    requires small { Small file.now m }
-    ensures value { result ≡ walk_one file.now pool.now seen m at }
-    ensures small_result { Small file.now (measured_in result) }
+#[tactic(auto, unfolding(crate::specs::Walk::walk_one, crate::specs::Attribute::attribute_at))]
+fn walk_one(class: ClassFile, walked: Walked, at: usize, end: usize) -> Result<Walked, Fault>
+    requires end_value { end ≡ attribute_end class.file.now at }
+    requires at_bound { at + 6 ≤ end }
+    requires light { Light walked.size }
+    ensures value { result ≡ walk_one class.entry.file.now class.entry.pool.now walked at }
+    ensures light_result { IfOk result (λ w. Light w.size) }
+    ensures within { IfOk result (λ w. end ≤ length class.entry.file.now) }
 {
-    if file.len() < end {
-        return Walked::Fault(at);
+    if class.file.len() < end {
+        return Err(Fault { at });
     }
-    let i = be16(file, at);
-    if !is_tag(file, pool, 1, i) {
-        return Walked::Fault(at);
-    }
-    let a = attribute_named(text(file, pool, i));
-    walk_named(file, pool, seen, m, a, at, end)
+    let Some(name) = class.utf8(be16(class.file, at)) else {
+        return Err(Fault { at });
+    };
+    walk_named(class, walked, attribute_named(name), at, end)
 }
 
 // What stands behind the last attribute.
-fn walk_end(file: &[u8], seen: Seen, m: Measured, at: usize) -> Walked
-    ensures { result ≡ walk_end file.now seen m at }
+#[tactic(auto, unfolding(crate::specs::Walk::walk_end))]
+fn walk_end(file: &[u8], walked: Walked, at: usize) -> Result<Walked, Fault>
+    ensures value { result ≡ walk_end file.now walked at }
+    ensures same { IfOk result (λ w. w ≡ walked) }
 {
     if at != file.len() {
-        return Walked::Fault(at);
+        return Err(Fault { at });
     }
-    if seen.descriptor == 0 {
-        return Walked::Fault(file.len());
+    if walked.seen.descriptor.is_none() {
+        return Err(Fault { at: file.len() });
     }
-    Walked::Found(seen, m)
+    Ok(walked)
 }
 
 // n attributes from `at` on.
-pub fn walk(file: &[u8], pool: &[u16], n: usize, at: usize) -> Walked
-    requires file_len_bound { length file.now ≤ 65535 }
-    requires at_in_bounds { at ≤ length file.now }
-    ensures value { result ≡ walk_from file.now pool.now n nothing_seen at }
-    ensures small { Small file.now (measured_in result) }
+pub fn walk(class: ClassFile, n: usize, at: usize) -> Result<Walked, Fault>
+    requires { at ≤ length class.file.now }
+    ensures value { result ≡ walk_from class.entry.file.now class.entry.pool.now n nothing_seen at }
+    ensures light { IfOk result (λ w. Light w.size) }
 {
-    let mut seen = Seen {
-        descriptor: 0,
-        packages: 0,
-        main: 0,
-    };
-    let mut m = Measured {
-        next: 0,
-        size: 0,
-        large: false,
+    let mut walked = Walked {
+        seen: Seen {
+            descriptor: None,
+            packages: None,
+            main: None,
+        },
+        size: None,
     };
     let mut b = at;
-    let mut i: usize = 0;
-    while i < n {
-        let end = attribute_end(file, b);
-        match walk_one(file, pool, seen, m, b, end) {
-            Walked::Fault(o) => {
-                return Walked::Fault(o);
-            }
-            Walked::Found(s, k) => {
-                seen = s;
-                m = k;
-            }
-        }
+    for _i in 0..n {
+        let end = attribute_end(class.file, b);
+        walked = walk_one(class, walked, b, end)?;
         b = end;
-        i += 1;
     }
-    walk_end(file, seen, m, b)
+    walk_end(class.file, walked, b)
 }

@@ -1,11 +1,11 @@
 // The entries of the attributes' tables: which constant names one, and where it ends.
-ghost use Rattle.std.specs.Prelude.{◌≡◌, cond, ◌+◌, ◌*◌, ◌≤◌, length};
-ghost use Rattle.records.specs.Record.{mark_for};
+ghost use Rattle.std.specs.Prelude.{◌≡◌, cond, Some, None, IfSome, ◌+◌, ◌*◌, ◌≤◌, length};
 ghost use Rattle.class_reader.specs.Entry.{name_tag, kind_of, entry_end, names_good, names_at, names_bytes, list_bytes};
 ghost use Rattle.class_reader.specs.Pool.{has_version, version_at};
 
-use crate::pool::{has_name, has_version, name, version};
+use crate::pool::{CLASS, ClassFile, MODULE, PACKAGE};
 use records::bytes::be16;
+use records::record::Kind;
 
 // What an entry says, and the record that it becomes.
 #[derive(Clone, Copy)]
@@ -22,98 +22,80 @@ pub enum Entry {
 
 impl Entry {
     // The tag of the constant that names it.
+    #[tactic(auto, unfolding(crate::specs::Entry::name_tag))]
     pub fn name_tag(self) -> usize
         ensures { result ≡ name_tag self }
     {
         match self {
-            Entry::Module => 19,
-            Entry::Requires => 19,
-            Entry::Exports => 20,
-            Entry::Opens => 20,
-            Entry::Uses => 7,
-            Entry::Provides => 7,
-            Entry::Package => 20,
-            Entry::MainClass => 7,
+            Entry::Module | Entry::Requires => MODULE,
+            Entry::Exports | Entry::Opens | Entry::Package => PACKAGE,
+            Entry::Uses | Entry::Provides | Entry::MainClass => CLASS,
         }
     }
 
-    // The mark of its record.
-    pub fn mark(self) -> usize
-        ensures { result ≡ mark_for (kind_of self) }
+    // The kind of its record.
+    #[tactic(auto, unfolding(crate::specs::Entry::kind_of))]
+    pub fn kind(self) -> Kind
+        ensures { result ≡ kind_of self }
     {
         match self {
-            Entry::Module => 0x4D4F,
-            Entry::Requires => 0x5251,
-            Entry::Exports => 0x4558,
-            Entry::Opens => 0x4F50,
-            Entry::Uses => 0x5553,
-            Entry::Provides => 0x5056,
-            Entry::Package => 0x504B,
-            Entry::MainClass => 0x4D43,
+            Entry::Module => Kind::Module,
+            Entry::Requires => Kind::Requires,
+            Entry::Exports => Kind::Exports,
+            Entry::Opens => Kind::Opens,
+            Entry::Uses => Kind::Uses,
+            Entry::Provides => Kind::Provides,
+            Entry::Package => Kind::Package,
+            Entry::MainClass => Kind::MainClass,
+        }
+    }
+
+    // Where the entry at p ends.
+    #[tactic(auto, unfolding(crate::specs::Entry::entry_end))]
+    pub fn end(self, file: &[u8], p: usize) -> usize
+        requires { p ≤ 65541 }
+        ensures { result ≡ entry_end self file.now p }
+    {
+        match self {
+            Entry::Module | Entry::Requires => p + 6,
+            Entry::Exports | Entry::Opens => p + 6 + 2 * be16(file, p + 4),
+            Entry::Provides => p + 4 + 2 * be16(file, p + 2),
+            Entry::Uses | Entry::Package | Entry::MainClass => p + 2,
         }
     }
 }
 
-// Where the entry at p ends.
-pub fn entry_end(file: &[u8], e: Entry, p: usize) -> usize
-    requires { p ≤ 65541 }
-    ensures { result ≡ entry_end e file.now p }
-{
-    match e {
-        Entry::Module => p + 6,
-        Entry::Requires => p + 6,
-        Entry::Exports => p + 6 + 2 * be16(file, p + 4),
-        Entry::Opens => p + 6 + 2 * be16(file, p + 4),
-        Entry::Uses => p + 2,
-        Entry::Provides => p + 4 + 2 * be16(file, p + 2),
-        Entry::Package => p + 2,
-        Entry::MainClass => p + 2,
-    }
-}
-
-// One more than the bytes that the names of n indices take, 0 where one is not good.
-fn names_size(file: &[u8], pool: &[u16], tag: usize, n: usize, p: usize) -> usize
+// The bytes that the names of n indices take, if all are good.
+fn names_size(class: ClassFile, tag: usize, n: usize, p: usize) -> Option<usize>
     requires n_bound { n ≤ 65535 }
     requires p_bound { p ≤ 65547 }
-    ensures value { result ≡ cond (names_good tag file.now pool.now n p) (1 + length (names_bytes (names_at file.now pool.now n p))) 0 }
-    ensures upper_bound { result ≤ 1 + 256 * n }
+    ensures value { result ≡ cond (names_good tag class.entry.file.now class.entry.pool.now n p) (Some (length (names_bytes (names_at class.entry.file.now class.entry.pool.now n p)))) None }
+    ensures upper_bound { IfSome result (λ size. size ≤ 256 * n) }
 {
-    let mut size: usize = 1;
-    let mut at = p;
-    let mut i: usize = 0;
-    while i < n {
-        let k = be16(file, at);
-        if !has_name(file, pool, tag, k) {
-            return 0;
-        }
-        size += 1 + name(file, pool, k).len();
-        at += 2;
-        i += 1;
+    let mut size = 0;
+    for i in 0..n {
+        let name = class.good_name(tag, be16(class.file, p + 2 * i))?;
+        size += 1 + name.len();
     }
-    size
+    Some(size)
 }
 
-// One more than the bytes that a list takes, 0 where it is not good.
-pub fn list_size(file: &[u8], pool: &[u16], tag: usize, n: usize, p: usize) -> usize
+// The bytes that a list takes, if it is good.
+#[tactic(auto, using(crate::proofs::entry::Laws::list_long))]
+pub fn list_size(class: ClassFile, tag: usize, n: usize, p: usize) -> Option<usize>
     requires n_bound { n ≤ 65535 }
     requires p_bound { p ≤ 65547 }
-    ensures value { result ≡ cond (names_good tag file.now pool.now n p) (1 + length (list_bytes file.now pool.now n p)) 0 }
-    ensures upper_bound { result ≤ 3 + 256 * n }
+    ensures value { result ≡ cond (names_good tag class.entry.file.now class.entry.pool.now n p) (Some (length (list_bytes class.entry.file.now class.entry.pool.now n p))) None }
+    ensures upper_bound { IfSome result (λ size. size ≤ 2 + 256 * n) }
 {
-    let size = names_size(file, pool, tag, n, p);
-    if size == 0 {
-        return 0;
-    }
-    2 + size
+    Some(2 + names_size(class, tag, n, p)?)
 }
 
-// Two more than the bytes of a version, 0 where it is not good.
-pub fn version_size(file: &[u8], pool: &[u16], i: usize) -> usize
-    ensures value { result ≡ cond (has_version file.now pool.now i) (2 + length (version_at file.now pool.now i)) 0 }
-    ensures upper_bound { result ≤ 257 }
+// The bytes that a version takes, if it is good.
+#[tactic(auto, using(crate::proofs::entry::Names::version_short))]
+pub fn version_size(class: ClassFile, i: usize) -> Option<usize>
+    ensures value { result ≡ cond (has_version class.entry.file.now class.entry.pool.now i) (Some (1 + length (version_at class.entry.file.now class.entry.pool.now i))) None }
+    ensures upper_bound { IfSome result (λ size. size ≤ 256) }
 {
-    if !has_version(file, pool, i) {
-        return 0;
-    }
-    2 + version(file, pool, i).len()
+    Some(1 + class.good_version(i)?.len())
 }

@@ -1,189 +1,145 @@
 // The length of what is to be written, and whether what is read is good: front to back through the tables.
-ghost use Rattle.std.specs.Prelude.{◌≡◌, cond, ◌||◌, ◌+◌, ◌≤◌, length, eqb, ltb};
+ghost use Rattle.std.specs.Prelude.{◌≡◌, cond, Some, None, IfSome, option_map, ◌+◌, ◌^◌, ◌≤◌, ◌<◌, length, ltb};
+ghost use Rattle.std.specs.Option.{ForSome};
 ghost use Rattle.class_reader.specs.Entry.{is_entry, entry_body, rest_good, prefix_of, suffix_of, module_tables};
-ghost use Rattle.class_reader.specs.Measure.{faulty, measure_entries, measure_table, measure_tables, measure_module, table_entry, Small};
+ghost use Rattle.class_reader.specs.Measure.{nothing_measured, measure_entries, measure_table, measure_tables, measure_module, Small};
 
-use crate::entry::{Entry, entry_end, list_size, version_size};
-use crate::pool::{has_name, name};
+use crate::entry::{Entry, list_size, version_size};
+use crate::pool::{CLASS, ClassFile, MODULE};
 use records::bytes::{be16, same};
 
-// How far the file was read, 0 where a fault was met; the bytes that its records take; whether one of their bodies is over
-// 65,535 bytes.
+// The tables of a Module attribute, one behind the other.
+pub const MODULE_TABLES: [Entry; 5] = [
+    Entry::Requires,
+    Entry::Exports,
+    Entry::Opens,
+    Entry::Uses,
+    Entry::Provides,
+];
+
+// How far the file was read, and the bytes that its records take: None where the body of one is over 65,535 bytes.
 #[derive(Clone, Copy)]
 pub struct Measured {
     pub next: usize,
-    pub size: usize,
-    pub large: bool,
+    pub size: Option<usize>,
 }
 
-// A fault.
-fn faulty() -> Measured
-    ensures { result ≡ faulty }
-{
-    Measured {
-        next: 0,
-        size: 0,
-        large: false,
+impl Measured {
+    // Nothing yet, with the file read up to here.
+    pub fn nothing(next: usize) -> Measured
+        ensures { result ≡ nothing_measured next }
+    {
+        Measured {
+            next,
+            size: Some(0),
+        }
     }
 }
 
-// The sum, 0 where the first is 0.
-fn plus(size: usize, more: usize) -> usize
-    requires size_bound { size ≤ 20000000 }
-    requires more_bound { more ≤ 255 }
-    ensures { result ≡ cond (eqb size 0) 0 (size + more) }
-{
-    if size == 0 {
-        return 0;
-    }
-    size + more
-}
-
-// One more than the bytes of the body of the entry at p without its name, 0 where they are not good.
-fn rest_size(file: &[u8], pool: &[u16], e: Entry, p: usize) -> usize
+// The bytes of the body of the entry at p without its name, if they are good.
+#[tactic(auto, using(crate::proofs::measure::Laws::version_long), unfolding(crate::specs::Entry::rest_good, crate::specs::Entry::prefix_of, crate::specs::Entry::suffix_of))]
+fn rest_size(class: ClassFile, e: Entry, p: usize) -> Option<usize>
     requires { p ≤ 65541 }
-    ensures value { result ≡ cond (rest_good e file.now pool.now p) (1 + (length (prefix_of e file.now p) + length (suffix_of e file.now pool.now p))) 0 }
-    ensures upper_bound { result ≤ 20000000 }
+    ensures value { result ≡ cond (rest_good e class.entry.file.now class.entry.pool.now p) (Some (length (prefix_of e class.entry.file.now p) + length (suffix_of e class.entry.file.now class.entry.pool.now p))) None }
+    ensures upper_bound { IfSome result (λ size. size ≤ 20000000) }
 {
+    let file = class.file;
     match e {
-        Entry::Module => plus(version_size(file, pool, be16(file, p + 4)), 3),
+        Entry::Module => Some(3 + version_size(class, be16(file, p + 4))?),
         Entry::Requires => {
-            if same(name(file, pool, be16(file, p)), b"ALL-UNNAMED") {
-                return 0;
+            if same(class.name(be16(file, p)), b"ALL-UNNAMED") {
+                return None;
             }
-            plus(version_size(file, pool, be16(file, p + 4)), 2)
+            Some(2 + version_size(class, be16(file, p + 4))?)
         }
-        Entry::Exports => list_size(file, pool, 19, be16(file, p + 4), p + 6),
-        Entry::Opens => list_size(file, pool, 19, be16(file, p + 4), p + 6),
-        Entry::Uses => 1,
-        Entry::Provides => list_size(file, pool, 7, be16(file, p + 2), p + 4),
-        Entry::Package => 1,
-        Entry::MainClass => 1,
+        Entry::Exports | Entry::Opens => list_size(class, MODULE, be16(file, p + 4), p + 6),
+        Entry::Provides => list_size(class, CLASS, be16(file, p + 2), p + 4),
+        Entry::Uses | Entry::Package | Entry::MainClass => Some(0),
     }
 }
 
-// The bytes that the record of the entry at p takes, 0 where the entry is not good.
-pub fn entry_size(file: &[u8], pool: &[u16], e: Entry, p: usize) -> usize
+// The bytes that the record of the entry at p takes, if the entry is good.
+#[tactic(auto, using(crate::proofs::entry::Small::body_long), unfolding(crate::specs::Entry::is_entry))]
+pub fn entry_size(class: ClassFile, e: Entry, p: usize) -> Option<usize>
     requires { p ≤ 65541 }
-    ensures { result ≡ cond (is_entry e file.now pool.now p) (4 + length (entry_body e file.now pool.now p)) 0 }
+    ensures { result ≡ cond (is_entry e class.entry.file.now class.entry.pool.now p) (Some (4 + length (entry_body e class.entry.file.now class.entry.pool.now p))) None }
 {
-    if file.len() < entry_end(file, e, p) {
-        return 0;
+    if class.file.len() < e.end(class.file, p) {
+        return None;
     }
-    let i = be16(file, p);
-    if !has_name(file, pool, e.name_tag(), i) {
-        return 0;
-    }
-    let rest = rest_size(file, pool, e, p);
-    if rest == 0 {
-        return 0;
-    }
-    4 + name(file, pool, i).len() + rest
+    let name = class.good_name(e.name_tag(), be16(class.file, p))?;
+    let rest = rest_size(class, e, p)?;
+    Some(5 + name.len() + rest)
 }
 
-// Whether `large` holds, or a record of s bytes has a body of over 65,535.
-fn or_large(large: bool, s: usize) -> bool
-    ensures { result ≡ (large || ltb 65539 s) }
+// The bytes so far with those of one more record: None where the body of one is over 65,535 bytes.
+fn with_record(size: Option<usize>, bytes: usize) -> Option<usize>
+    requires { ForSome size (λ n. n + bytes < 2 ^ 64) }
+    ensures { result ≡ cond (ltb 65539 bytes) None (option_map (λ n. n + bytes) size) }
 {
-    if large {
-        return true;
+    let size = size?;
+    if 65539 < bytes {
+        return None;
     }
-    65539 < s
+    Some(size + bytes)
 }
 
-// n entries from where `from` ends.
-pub fn measure(file: &[u8], pool: &[u16], e: Entry, n: usize, from: Measured) -> Measured
-    requires file_len_bound { length file.now ≤ 65535 }
-    requires small { Small file.now from }
-    ensures value { result ≡ measure_entries e file.now pool.now n from }
-    ensures small_result { Small file.now result }
+// n entries from where `from` ends, if they are good.
+pub fn measure(class: ClassFile, e: Entry, n: usize, from: Measured) -> Option<Measured>
+    requires { Small class.file.now from }
+    ensures value { result ≡ measure_entries e class.entry.file.now class.entry.pool.now n from }
+    ensures small { IfSome result (λ measured. Small class.entry.file.now measured) }
 {
-    let mut next = from.next;
-    let mut size = from.size;
-    let mut large = from.large;
-    let mut i: usize = 0;
-    while i < n {
-        let s = entry_size(file, pool, e, next);
-        if s == 0 {
-            return faulty();
-        }
-        large = or_large(large, s);
-        size += s;
-        next = entry_end(file, e, next);
-        i += 1;
+    let mut measured = from;
+    for _i in 0..n {
+        let bytes = entry_size(class, e, measured.next)?;
+        measured = Measured {
+            next: e.end(class.file, measured.next),
+            size: with_record(measured.size, bytes),
+        };
     }
-    Measured { next, size, large }
+    Some(measured)
 }
 
-// The table there.
-pub fn measure_table(file: &[u8], pool: &[u16], e: Entry, from: Measured) -> Measured
-    requires file_len_bound { length file.now ≤ 65535 }
-    requires small { Small file.now from }
-    ensures value { result ≡ measure_table e file.now pool.now from }
-    ensures small_result { Small file.now result }
+// The table there, if it is good.
+#[tactic(auto, unfolding(crate::specs::Measure::measure_table, crate::specs::Measure::measure_entries, crate::specs::Measure::adding, crate::specs::Entry::table_good, crate::specs::Entry::table_end, crate::specs::Entry::table_items))]
+pub fn measure_table(class: ClassFile, e: Entry, from: Measured) -> Option<Measured>
+    requires { Small class.file.now from }
+    ensures value { result ≡ measure_table e class.entry.file.now class.entry.pool.now from }
+    ensures small { IfSome result (λ measured. Small class.entry.file.now measured) }
 {
-    let next = from.next;
-    if next == 0 {
-        return faulty();
+    let next = from.next + 2;
+    if class.file.len() < next {
+        return None;
     }
-    if file.len() < next + 2 {
-        return faulty();
-    }
-    let n = be16(file, next);
-    let behind = Measured {
-        next: next + 2,
-        size: from.size,
-        large: from.large,
-    };
-    measure(file, pool, e, n, behind)
+    measure(
+        class,
+        e,
+        be16(class.file, from.next),
+        Measured { next, ..from },
+    )
 }
 
-// The table i of a Module attribute.
-pub fn table_entry(i: usize) -> Entry
-    ensures { result ≡ table_entry i }
+// The tables of a Module attribute there, if they are good.
+fn measure_tables(class: ClassFile, from: Measured) -> Option<Measured>
+    requires { Small class.file.now from }
+    ensures value { result ≡ measure_tables class.entry.file.now class.entry.pool.now module_tables from }
+    ensures small { IfSome result (λ measured. Small class.entry.file.now measured) }
 {
-    if i == 0 {
-        return Entry::Requires;
+    let mut measured = from;
+    for e in MODULE_TABLES {
+        measured = measure_table(class, e, measured)?;
     }
-    if i == 1 {
-        return Entry::Exports;
-    }
-    if i == 2 {
-        return Entry::Opens;
-    }
-    if i == 3 {
-        return Entry::Uses;
-    }
-    Entry::Provides
+    Some(measured)
 }
 
-// The tables of a Module attribute there.
-fn measure_tables(file: &[u8], pool: &[u16], from: Measured) -> Measured
-    requires file_len_bound { length file.now ≤ 65535 }
-    requires small { Small file.now from }
-    ensures value { result ≡ measure_tables file.now pool.now module_tables from }
-    ensures small_result { Small file.now result }
+// The contents of a Module attribute, from p on, if they are good.
+#[tactic(auto, unfolding(crate::specs::Measure::measure_module))]
+pub fn measure_module(class: ClassFile, p: usize) -> Option<Measured>
+    requires { p ≤ length class.file.now }
+    ensures value { result ≡ measure_module class.entry.file.now class.entry.pool.now p }
+    ensures small { IfSome result (λ measured. Small class.entry.file.now measured) }
 {
-    let mut m = from;
-    let mut i: usize = 0;
-    while i < 5 {
-        m = measure_table(file, pool, table_entry(i), m);
-        i += 1;
-    }
-    m
-}
-
-// The contents of a Module attribute, from p on.
-pub fn measure_module(file: &[u8], pool: &[u16], p: usize) -> Measured
-    requires file_len_bound { length file.now ≤ 65535 }
-    requires p_in_bounds { p ≤ length file.now }
-    ensures value { result ≡ measure_module file.now pool.now p }
-    ensures small { Small file.now result }
-{
-    let from = Measured {
-        next: p,
-        size: 0,
-        large: false,
-    };
-    measure_tables(file, pool, measure(file, pool, Entry::Module, 1, from))
+    let measured = measure(class, Entry::Module, 1, Measured::nothing(p))?;
+    measure_tables(class, measured)
 }

@@ -8,7 +8,7 @@ use Rattle.records.specs.Record.{mark_for}
 use Rattle.records.specs.Order.{insert_name, ordered_from, ordered}
 use Rattle.records.specs.Output.{written, two_bytes, record_bytes, name_bytes}
 use Rattle.records.specs.Jar.{fitted, output_after}
-use Rattle.records.specs.declared.jar.Written.{Written}
+use Rattle.records.specs.Jar.{Written}
 use Rattle.class_reader.specs.Pool.{tag_at, width_at, takes_two, is_defined, is_constant, pool_from, offsets_from, pool_count, pool_end, pool_of, is_tag, text_at, is_name_text, has_text, name_index, has_name, name_at, has_version, version_at}
 use Rattle.class_reader.specs.Entry.{names_good, names_at, name_tag, entry_end, rest_good, is_entry, kind_of, high_flags, prefix_of, names_bytes, list_bytes, suffix_of, entry_body, entry_item, bytes_of, is_large, entries_good, entries_end, entries_items, table_good, table_end, table_items, tables_good, tables_end, tables_items, module_tables}
 use Rattle.class_reader.specs.Attribute.{attribute_end, attribute_named, attribute_at, contents_good, seen_at, see, attribute_good, fault_unless, end_faults, attribute_faults, seen_from, module_items, package_names, package_item, package_items, main_items, descriptor_items}

@@ -2,9 +2,10 @@
 use Prim.Native.Nat.{ℕ, zero, suc, ◌+◌, ◌<◌}
 use mathlib.Core.Path.{◌≡◌, refl}
 use mathlib.Core.List.{List, [], ◌∷◌, map, append-nil}
-use mathlib.Core.Bool.{Bool, true, false, ◌&&◌}
+use mathlib.Core.Bool.{Bool, true, ◌&&◌}
 use lib.ListN.{length, get_or}
-use lib.Dec.{leb, eqb}
+use lib.Dec.{leb}
+use Rattle.std.proofs.Common.{Option, Some}
 use Rattle.records.specs.Bytes.{u16_at}
 use Rattle.records.specs.Record.{is_body}
 use Rattle.records.specs.Order.{ordered, all_names}
@@ -65,6 +66,6 @@ names-inner (n ∷ ns) e =
     let m : is_body Kind.Package (name_bytes n) ≡ true = rw append-nil at (alone-made n (and_left (is_name_text n) (all_names is_name_text ns) e)) in
     rw m (names-inner ns (and_right (is_name_text n) (all_names is_name_text ns) e))
 
-pub packages_inner : (f t : List ℕ) (at : ℕ) → (eqb at 0 ≡ false → table_good Package f t (at + 6) ≡ true) → all_inner (package_items f t at) ≡ true
+pub packages_inner : (f t : List ℕ) (at : Option ℕ) → ((p : ℕ) → at ≡ Some p → table_good Package f t (p + 6) ≡ true) → all_inner (package_items f t at) ≡ true
 unfolding package_items
 packages_inner f t at g = names-inner (ordered (package_names f t at)) (ordered-all is_name_text (package_names f t at) (package_names_lem f t at g))

@@ -2,11 +2,12 @@
 use Prim.Native.Nat.{ℕ, suc, ◌+◌, ◌*◌, ◌≤◌}
 use mathlib.Core.Path.{◌≡◌, refl, ◌∙◌}
 use mathlib.Core.List.{List, [], ◌∷◌, ◌++◌, map, append-nil}
-use mathlib.Core.Bool.{Bool, true, false, cond, or-false}
+use mathlib.Core.Bool.{true, false, cond, or-false}
 use native.Mathlib.Omega.{arith}
 use lib.ListN.{length, length-append}
-use lib.Dec.{eqb}
-use borrow.Author.Tests.{leb-true, le-ltb, eq-eqb, ne_eqb}
+use borrow.Author.Tests.{leb-true, le-ltb}
+use Rattle.std.proofs.Common.{Option, Some, None}
+use Rattle.std.specs.Option.{unwrap_or}
 use Rattle.records.specs.Order.{ordered, all_names, is_short, all_short}
 use Rattle.records.specs.Output.{Put, name_bytes, record_bytes}
 use Rattle.records.proofs.Logic.{and_left, and_right}
@@ -14,72 +15,74 @@ use Rattle.records.proofs.order.Ordered.{ordered-all}
 use Rattle.records.proofs.output.Made.{made-long}
 use Rattle.records.proofs.output.Written.{written_none}
 use Rattle.class_reader.specs.Entry.{kind_of, entry_end, is_entry, entry_body, entry_item, bytes_of, is_large}
-use Rattle.class_reader.specs.Attribute.{module_items, package_names, package_item, package_items, main_items, descriptor_items}
+use Rattle.class_reader.specs.Attribute.{module_at, module_items, package_names, package_item, package_items, main_items, descriptor_items}
 use Rattle.class_reader.specs.Output.{Room}
 use Rattle.class_reader.specs.Walk.{Readable}
 use Rattle.class_reader.specs.declared.entry.Entry.TheVariants.{MainClass}
 use Rattle.class_reader.specs.declared.attribute.Seen.{Seen}
 use Rattle.class_reader.proofs.entry.Items.{bytes-append, large_append}
-use Rattle.class_reader.proofs.entry.Small.{entry-small}
+use Rattle.class_reader.proofs.entry.Small.{entry_small}
 use Rattle.class_reader.proofs.class_file.PackageTable.{names-short}
 
 -- ---- MC
 
 module _ (f t : List ℕ) (s : Seen) where
-  pub main-none : s.main ≡ 0 → 0 ≡ length (bytes_of (main_items f t s.main))
+  pub main-none : s.main ≡ None → 0 ≡ length (bytes_of (main_items f t s.main))
   unfolding main_items bytes_of
-  main-none e = rw (eq-eqb s.main 0 e)
+  main-none e = rw e
 
-  pub main-put-none : (o : List ℕ) (at : ℕ) → s.main ≡ 0 → Put o at (bytes_of (main_items f t s.main)) o at
+  pub main-put-none : (o : List ℕ) (at : ℕ) → s.main ≡ None → Put o at (bytes_of (main_items f t s.main)) o at
   unfolding main_items bytes_of
   main-put-none o at e =
       let p : Put o at [] o at = record { place = omega arith; bytes = rw (written_none o at) } in
-      rw (eq-eqb s.main 0 e) p
+      rw e p
 
   module _ (h : Readable f t s) where
-    main-long : eqb s.main 0 ≡ false → 4 + length (entry_body MainClass f t (s.main + 6)) ≤ 260
-    unfolding entry_end
-    main-long e =
-        let k : 4 + length (entry_body MainClass f t (s.main + 6)) + 130 * (s.main + 6) ≤ 130 * (s.main + 6 + 2) =
-        entry-small MainClass f t (s.main + 6) (h.main_good e) in
-        omega arith
-
     main-narrow : is_large (main_items f t s.main) ≡ false
-    unfolding main_items is_large entry_item
-    main-narrow = go (eqb s.main 0) refl
+    unfolding main_items is_large entry_item entry_end
+    main-narrow = go s.main refl
       where
-        go : (b : Bool) → eqb s.main 0 ≡ b → is_large (cond b [] (entry_item MainClass f t (s.main + 6) ∷ [])) ≡ false
-        go true e = refl
-        go false e = rw (le-ltb 65535 (length (entry_body MainClass f t (s.main + 6))) (omega (arith, main-long e)))
+        go : (o : Option ℕ) → s.main ≡ o → is_large (main_items f t o) ≡ false
+        go None e = refl
+        go (Some m) e =
+            let k : 4 + length (entry_body MainClass f t (m + 6)) + 130 * (m + 6) ≤ 130 * (m + 6 + 2) = entry_small MainClass f t (m + 6) (h.main_good m e) in
+            rw (le-ltb 65535 (length (entry_body MainClass f t (m + 6))) (omega arith))
 
-    pub main-place : length f ≤ 65535 → s.main + 6 ≤ 65541
-    main-place l = omega (arith, h.main_low)
+    module _ (m : ℕ) (e : s.main ≡ Some m) where
+      main-long : 4 + length (entry_body MainClass f t (m + 6)) ≤ 260
+      unfolding entry_end
+      main-long =
+          let k : 4 + length (entry_body MainClass f t (m + 6)) + 130 * (m + 6) ≤ 130 * (m + 6 + 2) = entry_small MainClass f t (m + 6) (h.main_good m e) in
+          omega arith
 
-    module _ (n : s.main ≡ 0 → ⊥) where
-      pub main-entry : is_entry MainClass f t (s.main + 6) ≡ true
-      main-entry = h.main_good (ne_eqb s.main 0 n)
+      pub main-place : length f ≤ 65535 → m + 6 ≤ 65541
+      main-place l = omega (arith, h.main_low m e)
 
-      main-bytes : bytes_of (main_items f t s.main) ≡ record_bytes (kind_of MainClass) (entry_body MainClass f t (s.main + 6))
+      pub main-entry : is_entry MainClass f t (m + 6) ≡ true
+      main-entry = h.main_good m e
+
+      main-bytes : bytes_of (main_items f t s.main) ≡ record_bytes (kind_of MainClass) (entry_body MainClass f t (m + 6))
       unfolding main_items bytes_of entry_item
-      main-bytes = rw (ne_eqb s.main 0 n) (append-nil (record_bytes (kind_of MainClass) (entry_body MainClass f t (s.main + 6))))
+      main-bytes = rw e (append-nil (record_bytes (kind_of MainClass) (entry_body MainClass f t (m + 6))))
 
-      module _ (r : ℕ) (er : r ≡ cond (is_entry MainClass f t (s.main + 6)) (4 + length (entry_body MainClass f t (s.main + 6))) 0) where
-        told : r ≡ 4 + length (entry_body MainClass f t (s.main + 6))
-        told = er ∙ rw main-entry
+      module _ (o : Option ℕ) (eo : o ≡ cond (is_entry MainClass f t (m + 6)) (Some (4 + length (entry_body MainClass f t (m + 6)))) None) (r : ℕ)
+          (er : r ≡ unwrap_or o 0) where
+        told : r ≡ 4 + length (entry_body MainClass f t (m + 6))
+        told = er ∙ rw (eo, main-entry)
 
         pub main-sized : r ≡ length (bytes_of (main_items f t s.main))
-        main-sized = rw main-bytes (omega (arith, told, made-long (kind_of MainClass) (entry_body MainClass f t (s.main + 6))))
+        main-sized = rw main-bytes (omega (arith, told, made-long (kind_of MainClass) (entry_body MainClass f t (m + 6))))
 
         pub main_low : r ≤ 260
-        main_low = omega (arith, told, main-long (ne_eqb s.main 0 n))
+        main_low = omega (arith, told, main-long)
 
       pub main-room : (o : List ℕ) (at : ℕ) → at + length (bytes_of (main_items f t s.main)) ≤ length o
-          → Room o at (entry_item MainClass f t (s.main + 6) ∷ [])
+          → Room o at (entry_item MainClass f t (m + 6) ∷ [])
       unfolding main_items
-      main-room o at l = record { room = rw (ne_eqb s.main 0 n) at l; fits = rw (ne_eqb s.main 0 n) at main-narrow }
+      main-room o at l = record { room = rw e at l; fits = rw e at main-narrow }
 
       pub main-put : (o : List ℕ) (at : ℕ) (o₁ : List ℕ) (r : ℕ)
-          → Put o at (record_bytes (kind_of MainClass) (entry_body MainClass f t (s.main + 6))) o₁ r → Put o at (bytes_of (main_items f t s.main)) o₁ r
+          → Put o at (record_bytes (kind_of MainClass) (entry_body MainClass f t (m + 6))) o₁ r → Put o at (bytes_of (main_items f t s.main)) o₁ r
       main-put o at o₁ r p = rw main-bytes p
 
 pub ruleset main-size-laws = (main-none, main-place, main-sized, main_low)
@@ -104,19 +107,19 @@ packages_narrow f t s h =
 
 module _ (f t : List ℕ) (s : Seen) where
   pub descriptor_bytes : bytes_of (descriptor_items f t s)
-      ≡ bytes_of (module_items f t (s.descriptor + 6)) ++ (bytes_of (package_items f t s.packages) ++ bytes_of (main_items f t s.main))
+      ≡ bytes_of (module_items f t (module_at s)) ++ (bytes_of (package_items f t s.packages) ++ bytes_of (main_items f t s.main))
   unfolding descriptor_items
   descriptor_bytes =
-      bytes-append (module_items f t (s.descriptor + 6)) (package_items f t s.packages ++ main_items f t s.main)
+      bytes-append (module_items f t (module_at s)) (package_items f t s.packages ++ main_items f t s.main)
       ∙ rw (bytes-append (package_items f t s.packages) (main_items f t s.main))
 
   pub descriptor_long : length (bytes_of (descriptor_items f t s))
-      ≡ length (bytes_of (module_items f t (s.descriptor + 6)))
+      ≡ length (bytes_of (module_items f t (module_at s)))
       + (length (bytes_of (package_items f t s.packages)) + length (bytes_of (main_items f t s.main)))
   descriptor_long = rw descriptor_bytes (simp length-append)
 
-  pub descriptor_narrow : Readable f t s → is_large (descriptor_items f t s) ≡ is_large (module_items f t (s.descriptor + 6))
+  pub descriptor_narrow : Readable f t s → is_large (descriptor_items f t s) ≡ is_large (module_items f t (module_at s))
   unfolding descriptor_items
   descriptor_narrow h =
-      large_append (module_items f t (s.descriptor + 6)) (package_items f t s.packages ++ main_items f t s.main)
-      ∙ rw (large_append (package_items f t s.packages) (main_items f t s.main), packages_narrow f t s h, main-narrow f t s h) (or-false (is_large (module_items f t (s.descriptor + 6))))
+      large_append (module_items f t (module_at s)) (package_items f t s.packages ++ main_items f t s.main)
+      ∙ rw (large_append (package_items f t s.packages) (main_items f t s.main), packages_narrow f t s h, main-narrow f t s h) (or-false (is_large (module_items f t (module_at s))))

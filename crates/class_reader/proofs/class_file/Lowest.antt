@@ -7,21 +7,21 @@ use native.Mathlib.Omega.{arith}
 use lib.ListN.{length, get_or}
 use lib.Dec.{ltb, leb, eqb}
 use borrow.Author.Tests.{ltb-true, ltb-false, leb-true, le-ltb, le-leb}
+use Rattle.std.proofs.Common.{Result, Ok, Err}
+use Rattle.std.specs.Option.{is_some}
 use Rattle.records.specs.Bytes.{u16_at}
 use Rattle.records.specs.declared.error.ModuleError.TheVariants.{DescriptorParseError}
-use Rattle.records.specs.declared.jar.Written.{Written}
-use Rattle.records.specs.declared.jar.Written.TheVariants.{Refused}
+use Rattle.records.specs.Jar.{Written}
 use Rattle.records.proofs.Logic.{clash, and_left, and_right}
 use Rattle.class_reader.specs.Pool.{pool_end, pool_of}
 use Rattle.class_reader.specs.Attribute.{attribute_end, attribute_at, attribute_good, nothing_seen, see, fault_unless, end_faults, attribute_faults}
 use Rattle.class_reader.specs.ClassFile.{head_good, is_module_info, fields_good, faults_behind, faults_from, faults, lowest, seen_behind, then_faults}
 use Rattle.class_reader.specs.Walk.{walk_from}
-use Rattle.class_reader.specs.declared.pool.Pool.{Pool}
-use Rattle.class_reader.specs.declared.measure.Measured.{Measured}
+use Rattle.class_reader.specs.declared.pool.Fault.{Fault}
 use Rattle.class_reader.specs.declared.attribute.Seen.{Seen}
-use Rattle.class_reader.specs.declared.attribute.Walked.TheVariants.{Found, Fault}
+use Rattle.class_reader.specs.declared.attribute.Walked.{Walked}
 use Rattle.class_reader.proofs.attribute.Laws.{end-far}
-use Rattle.class_reader.proofs.attribute.Faults.{StartsWith, walk-fault, walk_none, walk-seen}
+use Rattle.class_reader.proofs.attribute.Faults.{fault, StartsWith, walk-fault, walk_none, walk-seen}
 
 -- ---- the lowest
 
@@ -115,7 +115,7 @@ first-lowest at (x ∷ xs) e =
     let l : at ≤ x = leb-true at x (and_left (leb at x) (all_above at xs) e) in
     rw (le-ltb x at l) (first-lowest at xs (and_right (leb at x) (all_above at xs) e))
 
-pub then-first : (at : ℕ) (ats : List ℕ) (w : Written) → all_above at ats ≡ true → then_faults (at ∷ ats) w ≡ Refused (DescriptorParseError at)
+pub then-first : (at : ℕ) (ats : List ℕ) (w : Written) → all_above at ats ≡ true → then_faults (at ∷ ats) w ≡ Err (DescriptorParseError at)
 unfolding then_faults
 then-first at ats w e = rw (first-lowest at ats e)
 
@@ -176,8 +176,8 @@ module _ (f t : List ℕ) where
   end-above : (s : Seen) (at : ℕ) → at ≤ length f → all_above at (end_faults f s at) ≡ true
   unfolding end_faults
   end-above s at l =
-      above-unless at at (eqb at (length f)) (fault_unless (ltb 0 s.descriptor) (length f)) (omega arith)
-      (above-one at (length f) (ltb 0 s.descriptor) l)
+      above-unless at at (eqb at (length f)) (fault_unless (is_some s.descriptor) (length f)) (omega arith)
+      (above-one at (length f) (is_some s.descriptor) l)
 
   attributes_above : (n : ℕ) (s : Seen) (at : ℕ) → at ≤ length f → all_above at (attribute_faults f t n s at) ≡ true
   unfolding attribute_faults
@@ -189,8 +189,8 @@ module _ (f t : List ℕ) where
   attributes_first : (n : ℕ) (s : Seen) (at : ℕ) → at ≤ length f → FirstLowest (attribute_faults f t n s at)
   unfolding attribute_faults end_faults
   attributes_first zero s at l =
-      first-unless at (eqb at (length f)) (fault_unless (ltb 0 s.descriptor) (length f)) (above-one at (length f) (ltb 0 s.descriptor) l)
-      (first-last (length f) (ltb 0 s.descriptor))
+      first-unless at (eqb at (length f)) (fault_unless (is_some s.descriptor) (length f)) (above-one at (length f) (is_some s.descriptor) l)
+      (first-last (length f) (is_some s.descriptor))
   attributes_first (suc n) s at l =
       let s' : Seen = see (attribute_at f t at) at s in
       let end : ℕ = attribute_end f at in
@@ -217,10 +217,10 @@ behind-first f t at = go (fields_good f t at) refl
     go true e = attributes_first f t (u16_at f (at + 12)) nothing_seen (at + 14) (fields-low f t at e)
     go false e = first_one at
 
-from_first : (f t : List ℕ) (p : Pool) → FirstLowest (faults_from f t p)
+from_first : (f t : List ℕ) (p : Result ℕ Fault) → FirstLowest (faults_from f t p)
 unfolding faults_from
-from_first f t (Pool.Fault at) = first_one at
-from_first f t (Pool.End at) = behind-first f t at
+from_first f t (Err x) = first_one x.at
+from_first f t (Ok at) = behind-first f t at
 
 faults-first : (f : List ℕ) → FirstLowest (faults f)
 unfolding faults
@@ -233,7 +233,7 @@ first-is-lowest f at ats e = first-lowest at ats (faults-first f at ats e)
 
 -- ---- what the answer tells
 
-pub head-bad : (f : List ℕ) (w : Written) → head_good f ≡ false → then_faults (faults f) w ≡ Refused (DescriptorParseError 0)
+pub head-bad : (f : List ℕ) (w : Written) → head_good f ≡ false → then_faults (faults f) w ≡ Err (DescriptorParseError 0)
 unfolding faults fault_unless
 head-bad f w e = rw e (then-first 0 (faults_from f (pool_of f) (pool_end f)) w (above_zero (faults_from f (pool_of f) (pool_end f))))
 
@@ -241,7 +241,7 @@ pub head_passed : (f : List ℕ) → head_good f ≡ true → faults f ≡ fault
 unfolding faults fault_unless
 head_passed f e = rw e
 
-pub pool-fault : (f t : List ℕ) (at : ℕ) (w : Written) → then_faults (faults_from f t (Pool.Fault at)) w ≡ Refused (DescriptorParseError at)
+pub pool-fault : (f t : List ℕ) (at : ℕ) (w : Written) → then_faults (faults_from f t (Err (record { at = at }))) w ≡ Err (DescriptorParseError at)
 unfolding faults_from all_above
 pool-fault f t at w = then-first at [] w refl
 
@@ -250,7 +250,7 @@ module _ (f t : List ℕ) (at : ℕ) where
   unfolding faults_behind
   fields-fault e = rw e
 
-  pub fields-bad : (w : Written) → fields_good f t at ≡ false → then_faults (faults_behind f t at) w ≡ Refused (DescriptorParseError at)
+  pub fields-bad : (w : Written) → fields_good f t at ≡ false → then_faults (faults_behind f t at) w ≡ Err (DescriptorParseError at)
   unfolding all_above
   fields-bad w e = rw (fields-fault e) (then-first at [] w refl)
 
@@ -258,17 +258,17 @@ module _ (f t : List ℕ) (at : ℕ) where
   unfolding faults_behind
   fields-passed e = rw e
 
-  pub behind-fault : (o : ℕ) (w : Written) → fields_good f t at ≡ true → walk_from f t (u16_at f (at + 12)) nothing_seen (at + 14) ≡ Fault o
-      → then_faults (faults_behind f t at) w ≡ Refused (DescriptorParseError o)
+  pub behind-fault : (o : ℕ) (w : Written) → fields_good f t at ≡ true → walk_from f t (u16_at f (at + 12)) nothing_seen (at + 14) ≡ fault o
+      → then_faults (faults_behind f t at) w ≡ Err (DescriptorParseError o)
   unfolding FirstLowest
   behind-fault o w e h =
       let b : StartsWith (attribute_faults f t (u16_at f (at + 12)) nothing_seen (at + 14)) o = walk-fault f t (u16_at f (at + 12)) nothing_seen (at + 14) o h in
       let q : faults_behind f t at ≡ o ∷ b.rest = fields-passed e ∙ b.starts in
       rw q (then-first o b.rest w (behind-first f t at o b.rest q))
 
-  pub behind-found : (s : Seen) (m : Measured) → fields_good f t at ≡ true → walk_from f t (u16_at f (at + 12)) nothing_seen (at + 14) ≡ Found s m → faults_behind f t at ≡ []
-  behind-found s m e h = fields-passed e ∙ walk_none f t (u16_at f (at + 12)) nothing_seen (at + 14) s m h
+  pub behind-found : (x : Walked) → fields_good f t at ≡ true → walk_from f t (u16_at f (at + 12)) nothing_seen (at + 14) ≡ Ok x → faults_behind f t at ≡ []
+  behind-found x e h = fields-passed e ∙ walk_none f t (u16_at f (at + 12)) nothing_seen (at + 14) x h
 
-  pub behind-seen : (s : Seen) (m : Measured) → walk_from f t (u16_at f (at + 12)) nothing_seen (at + 14) ≡ Found s m → seen_behind f t at ≡ s
+  pub behind-seen : (x : Walked) → walk_from f t (u16_at f (at + 12)) nothing_seen (at + 14) ≡ Ok x → seen_behind f t at ≡ x.seen
   unfolding seen_behind
-  behind-seen s m h = walk-seen f t (u16_at f (at + 12)) nothing_seen (at + 14) s m h
+  behind-seen x h = walk-seen f t (u16_at f (at + 12)) nothing_seen (at + 14) x h

@@ -1,15 +1,19 @@
 -- The packages of a ModulePackages attribute: how many they are, how long their names, and the table that tells them in order.
 use Prim.Native.Nat.{ℕ, zero, suc, ◌+◌, ◌*◌, ◌≤◌}
 use mathlib.Core.Path.{◌≡◌, refl, ◌∙◌, ap}
-use mathlib.Core.List.{List, [], ◌∷◌}
+use mathlib.Core.List.{List, [], ◌∷◌, map}
 use mathlib.Core.Bool.{Bool, true, false, cond, ◌&&◌}
 use native.Mathlib.Omega.{arith}
-use lib.ListN.{length}
-use lib.Dec.{ltb, leb, eqb}
+use lib.ListN.{length, take}
+use lib.Seq.{length-take-le}
+use Rattle.std.proofs.Common.{Option, Some, None}
+use Rattle.std.specs.Option.{ForSome}
+use lib.Dec.{ltb, leb}
 use borrow.Author.Tests.{leb-true}
 use Rattle.records.specs.Bytes.{same_bytes, before_bytes, u16_at}
 use Rattle.records.specs.Name.{printable}
-use Rattle.records.specs.Order.{insert_name, ordered_from, ordered, all_names, is_short, all_short}
+use Rattle.records.specs.Order.{name_in, insert_name, ordered_from, ordered, all_names, is_short, all_short}
+use Rattle.records.specs.Output.{names_in}
 use Rattle.records.proofs.Logic.{and_left, and_right}
 use Rattle.records.proofs.output.Sizes.{names-long}
 use Rattle.class_reader.specs.Pool.{is_name_text, has_name}
@@ -67,47 +71,44 @@ module _ (f t : List ℕ) where
 
 -- ---- the indices of the attribute
 
-module _ (f t : List ℕ) (at : ℕ) where
-  pub names_of : (n : ℕ) → n ≡ package_count f at → names_at f t n (at + 8) ≡ package_names f t at
-  unfolding package_count package_names names_at
-  names_of n e = go (eqb at 0) e
-    where
-      go : (b : Bool) → n ≡ cond b 0 (u16_at f (at + 6)) → names_at f t n (at + 8) ≡ cond b [] (names_at f t (u16_at f (at + 6)) (at + 8))
-      go true w = rw w
-      go false w = rw w
-
-  -- they obey the name rule
-  pub package_names_lem : (eqb at 0 ≡ false → table_good Package f t (at + 6) ≡ true) → all_names is_name_text (package_names f t at) ≡ true
-  unfolding package_names all_names
-  package_names_lem g = go (eqb at 0) refl
-    where
-      go : (z : Bool) → eqb at 0 ≡ z → all_names is_name_text (cond z [] (names_at f t (u16_at f (at + 6)) (at + 8))) ≡ true
-      go true e = refl
-      go false e =
-          let w : at + 6 + 2 ≡ at + 8 = omega arith in
-          names-told f t (u16_at f (at + 6)) (at + 8) (rw w at (table-entries f t (at + 6) (g e)))
+-- they obey the name rule
+pub package_names_lem : (f t : List ℕ) (o : Option ℕ) → ((at : ℕ) → o ≡ Some at → table_good Package f t (at + 6) ≡ true) → all_names is_name_text (package_names f t o) ≡ true
+unfolding package_names all_names
+package_names_lem f t None g = refl
+package_names_lem f t (Some at) g =
+    let w : at + 6 + 2 ≡ at + 8 = omega arith in
+    names-told f t (u16_at f (at + 6)) (at + 8) (rw w at (table-entries f t (at + 6) (g at refl)))
 
 module _ (f t : List ℕ) (s : Seen) (h : Readable f t s) where
   pub count-few : length f ≤ 65535 → package_count f s.packages ≤ 32768
   unfolding package_count
-  count-few l = go (eqb s.packages 0) refl
+  count-few l = go s.packages refl
     where
-      go : (b : Bool) → eqb s.packages 0 ≡ b → cond b 0 (u16_at f (s.packages + 6)) ≤ 32768
-      go true e = omega arith
-      go false e = omega (arith, table-few f t (s.packages + 6) (h.packages_good e))
+      go : (o : Option ℕ) → s.packages ≡ o → package_count f o ≤ 32768
+      go None e = omega arith
+      go (Some at) e = omega (arith, table-few f t (at + 6) (h.packages_good at e))
 
   pub names-short : all_short (package_names f t s.packages) ≡ true
   names-short = short-all (package_names f t s.packages) (package_names_lem f t s.packages h.packages_good)
 
-  pub order-short : (n : ℕ) → n ≡ package_count f s.packages → all_short (names_at f t n (s.packages + 8)) ≡ true
-  order-short n e = rw (names_of f t s.packages n e) names-short
+  pub packages-low : length f ≤ 65535 → ForSome s.packages (λ at. at ≤ 65535)
+  packages-low l = λ at e. omega (arith, h.packages_low at e)
 
-  pub order-place : length f ≤ 65535 → s.packages + 8 ≤ 65547
-  order-place l = omega (arith, h.packages_low)
+  module _ (at : ℕ) (e : s.packages ≡ Some at) where
+    pub order-here : at ≤ length f
+    order-here = h.packages_low at e
 
-pub order-room : (f : List ℕ) (s : Seen) (table : List ℕ) (n : ℕ) → n ≡ package_count f s.packages → package_count f s.packages ≤ length table
-    → n ≤ length table
-order-room f s table n e l = rw e l
+    module _ (n : ℕ) (en : n ≡ u16_at f (at + 6)) where
+      named : package_names f t s.packages ≡ names_at f t n (at + 8)
+      unfolding package_names
+      named = rw (e, en)
+
+      pub order-short : all_short (names_at f t n (at + 8)) ≡ true
+      order-short = rw named at names-short
+
+      pub order-room : (table : List ℕ) → package_count f s.packages ≤ length table → n ≤ length table
+      unfolding package_count
+      order-room table l = rw en (rw e at l)
 
 -- ---- the table
 
@@ -136,22 +137,34 @@ unfolding names_at
 names-count f t zero p = refl
 names-count f t (suc n) p = ap suc (names-count f t n (p + 2))
 
-pub table-ordered : (f t : List ℕ) (s : Seen) (n : ℕ) (before after : List ℕ) (r : ℕ) → n ≡ package_count f s.packages → n ≤ 65535
-    → NamesOrdered f (names_at f t n (s.packages + 8)) before after r → Ordered f t s after r
-table-ordered f t s n before after r en l o = record {
-  names_are = o.names_are ∙ rw (names_of f t s.packages n en);
-  small = o.small;
-  within = o.within;
-  few =
-      omega
-      (arith, names-long f after r o.within, ap length o.names_are, ordered-long (names_at f t n (s.packages + 8)), names-count f t n (s.packages + 8));
-}
+module _ (f t : List ℕ) (s : Seen) (h : Readable f t s) where
+  pub table-none : s.packages ≡ None → (table : List ℕ) → Ordered f t s (take 0 table)
+  unfolding package_names ordered ordered_from all_short all_names
+  table-none e table = record { names_are = rw e; small = refl; few = omega arith }
 
-pub ruleset order-laws = (order-short, order-place, order-room, table-ordered)
+  module _ (at : ℕ) (e : s.packages ≡ Some at) (n : ℕ) (en : n ≡ u16_at f (at + 6)) (before after : List ℕ) (r : ℕ) (o : NamesOrdered f (names_at f t n (at + 8)) before after r) where
+    told : map (name_in f) (take r after) ≡ ordered (package_names f t s.packages)
+    unfolding names_in
+    told = o.names_are ∙ rw (named f t s h at e n en)
+
+    pub table-ordered : n ≤ 65535 → Ordered f t s (take r after)
+    unfolding names_in
+    table-ordered l = record {
+      names_are = told;
+      small = o.small;
+      few =
+          omega
+          (arith, length-take-le r after o.within, names-long f after r o.within, ap length o.names_are, ordered-long (names_at f t n (at + 8)), names-count f t n (at + 8));
+    }
+
+    pub table-within : r ≤ length after
+    table-within = o.within
+
+pub ruleset order-laws = (packages-low, order-here, order-short, order-room, table-none, table-ordered, table-within)
 
 -- a table has room: for the few that there are, or for as many as a file can have
-pub few-room : (f : List ℕ) (at n : ℕ) (table : List ℕ) → n ≡ package_count f at → n ≤ 1024 → 1024 ≤ length table → package_count f at ≤ length table
-few-room f at n table e l k = omega (arith, e)
+pub few-room : (f : List ℕ) (o : Option ℕ) (n : ℕ) (table : List ℕ) → n ≡ package_count f o → n ≤ 1024 → 1024 ≤ length table → package_count f o ≤ length table
+few-room f o n table e l k = omega (arith, e)
 
 pub many-room : (f t : List ℕ) (s : Seen) (table : List ℕ) → Readable f t s → length f ≤ 65535 → 32768 ≤ length table
     → package_count f s.packages ≤ length table

@@ -2,43 +2,39 @@
 use Prim.Native.Nat.{ℕ, ◌+◌, ◌≤◌, ◌<◌}
 use mathlib.Core.Path.{◌≡◌, refl, sym, ◌∙◌}
 use mathlib.Core.List.{List, []}
-use mathlib.Core.Bool.{Bool, true, false, not, ◌&&◌, ◌||◌, or-true}
+use mathlib.Core.Bool.{Bool, true, false, ◌&&◌, ◌||◌, or-true}
 use native.Mathlib.Omega.{arith}
 use lib.ListN.{length, take}
 use lib.Seq.{length-take-le}
 use lib.Dec.{ltb, leb, eqb}
-use borrow.Author.Tests.{lt-ltb, le-ltb, le-leb, leb-true, ltb-true, not-true, not-false}
+use borrow.Author.Tests.{lt-ltb, le-ltb, le-leb, leb-true, ltb-true}
+use Rattle.std.proofs.Common.{Result, Ok, Err}
 use Rattle.records.specs.Bytes.{u16_at}
 use Rattle.records.specs.Jar.{output_after}
 use Rattle.records.specs.declared.error.ModuleError.TheVariants.{TooLarge, DescriptorParseError}
-use Rattle.records.specs.declared.jar.Written.{Written}
-use Rattle.records.specs.declared.jar.Written.TheVariants.{Refused}
+use Rattle.records.specs.Jar.{Written}
 use Rattle.records.proofs.Logic.{and_left, and_right}
 use Rattle.class_reader.specs.Pool.{pool_count, pool_end, pool_of}
 use Rattle.class_reader.specs.Attribute.{nothing_seen, descriptor_items}
 use Rattle.class_reader.specs.ClassFile.{head_good, is_module_info, fields_good, faults_behind, seen_behind, faults_from, lowest, items_from, items_of, then_faults, class_answer, ClassRead}
-use Rattle.class_reader.specs.Measure.{measure_module, Small}
 use Rattle.class_reader.specs.Reader.{ItemsRead, BehindRead, PoolRead}
 use Rattle.class_reader.specs.Table.{Filled}
-use Rattle.class_reader.specs.Walk.{measured_in, walk_from, Readable}
-use Rattle.class_reader.specs.declared.measure.Measured.{Measured}
-use Rattle.class_reader.specs.declared.attribute.Seen.{Seen}
+use Rattle.class_reader.specs.Walk.{module_size, walk_from, Readable}
 use Rattle.class_reader.specs.declared.attribute.Walked.{Walked}
-use Rattle.class_reader.specs.declared.pool.Pool.{Pool}
-use Rattle.class_reader.specs.declared.pool.Pool.TheVariants.{End, Fault}
+use Rattle.class_reader.specs.declared.pool.Fault.{Fault}
 use Rattle.class_reader.proofs.attribute.Faults.{found-measured, found_readable}
 use Rattle.class_reader.proofs.class_file.Lowest as Lowest
 
 -- ---- behind the pool
 
 module _ (f t : List ℕ) (at : ℕ) (b : Bool) (eb : b ≡ fields_good f t at) where
-  pub behind-fields : (o : List ℕ) → not b ≡ true → BehindRead f t at o o (Refused (DescriptorParseError at))
+  pub behind-fields : (o : List ℕ) → b ≡ false → BehindRead f t at o o (Err (DescriptorParseError at))
   unfolding then_faults faults_behind lowest output_after
-  behind-fields o e = record { answer = sym (rw (← eb, not-true b e)); output = refl }
+  behind-fields o e = record { answer = sym (rw (← eb, e)); output = refl }
 
-  module _ (e : not b ≡ false) where
+  module _ (e : b ≡ true) where
     good : fields_good f t at ≡ true
-    good = sym eb ∙ not-false b e
+    good = sym eb ∙ e
 
     pub behind-place : at + 14 ≤ length f
     unfolding fields_good
@@ -50,33 +46,29 @@ module _ (f t : List ℕ) (at : ℕ) (b : Bool) (eb : b ≡ fields_good f t at) 
         && ((eqb (u16_at f (at + 4)) 0 && eqb (u16_at f (at + 6)) 0) && (eqb (u16_at f (at + 8)) 0 && eqb (u16_at f (at + 10)) 0))))
         good)
 
-    module _ (n : ℕ) (en : n ≡ u16_at f (at + 12)) (w : Walked) (ew : w ≡ walk_from f t n nothing_seen (at + 14)) where
-      walked : walk_from f t (u16_at f (at + 12)) nothing_seen (at + 14) ≡ w
-      walked = sym (ew ∙ rw en)
-
-      pub behind-fault : (o : List ℕ) (x : ℕ) → w ≡ Walked.Fault x → BehindRead f t at o o (Refused (DescriptorParseError x))
+    module _ (n : ℕ) (en : n ≡ u16_at f (at + 12)) where
+      pub behind-fault : (o : List ℕ) (x : Fault) (r : Written) → Err x ≡ walk_from f t n nothing_seen (at + 14) → r ≡ Err (DescriptorParseError x.at) → BehindRead f t at o o r
       unfolding output_after
-      behind-fault o x h = record { answer = sym (Lowest.behind-fault f t at x _ good (walked ∙ h)); output = refl }
+      behind-fault o x r h er = rw er (record { answer = sym (Lowest.behind-fault f t at x.at _ good (sym (h ∙ rw en))); output = refl })
 
-      module _ (s : Seen) (m : Measured) (h : w ≡ Walked.Found s m) where
-        pub behind-found : Readable f t s
-        behind-found = found_readable f t (u16_at f (at + 12)) (at + 14) s m (walked ∙ h)
+      module _ (w : Walked) (h : Ok w ≡ walk_from f t n nothing_seen (at + 14)) where
+        walked : walk_from f t (u16_at f (at + 12)) nothing_seen (at + 14) ≡ Ok w
+        walked = sym (h ∙ rw en)
 
-        pub behind-measured : m ≡ measure_module f t (s.descriptor + 6)
-        behind-measured = sym (found-measured f t (u16_at f (at + 12)) nothing_seen (at + 14) s m (walked ∙ h))
+        pub behind-found : Readable f t w.seen
+        behind-found = found_readable f t (u16_at f (at + 12)) (at + 14) w walked
 
-        pub behind-read : (o o₁ : List ℕ) (r : Written) → ItemsRead (descriptor_items f t s) o o₁ r → BehindRead f t at o o₁ r
+        pub behind-measured : w.size ≡ module_size f t w.seen
+        behind-measured = found-measured f t (u16_at f (at + 12)) nothing_seen (at + 14) w walked
+
+        pub behind-read : (o o₁ : List ℕ) (r : Written) → ItemsRead (descriptor_items f t w.seen) o o₁ r → BehindRead f t at o o₁ r
         unfolding then_faults
         behind-read o o₁ r i =
-            let a : faults_behind f t at ≡ [] = Lowest.behind-found f t at s m good (walked ∙ h) in
-            let c : seen_behind f t at ≡ s = Lowest.behind-seen f t at s m (walked ∙ h) in
+            let a : faults_behind f t at ≡ [] = Lowest.behind-found f t at w good walked in
+            let c : seen_behind f t at ≡ w.seen = Lowest.behind-seen f t at w walked in
             record { answer = i.answer ∙ sym (rw (a, c)); output = i.output ∙ sym (rw c) }
 
-pub behind-small : (f : List ℕ) (w : Walked) (s : Seen) (m : Measured) → w ≡ Walked.Found s m → Small f (measured_in w) → Small f m
-unfolding measured_in
-behind-small f w s m h k = rw h at k
-
-pub ruleset behind-laws = (behind-fields, behind-place, behind-fault, behind-found, behind-measured, behind-small, behind-read)
+pub ruleset behind-laws = (behind-fields, behind-place, behind-fault, behind-found, behind-measured, behind-read)
 
 -- ---- the pool
 
@@ -102,16 +94,16 @@ module _ (f : List ℕ) (n : ℕ) (en : n ≡ u16_at f 8) where
   unfolding pool_count
   pool-room t e = rw en e
 
-  module _ (t₀ t₁ : List ℕ) (p : Pool) (k : Filled f n t₀ t₁ p) where
+  module _ (t₀ t₁ : List ℕ) (p : Result ℕ Fault) (k : Filled f n t₀ t₁ p) where
     pool-is : p ≡ pool_end f
     unfolding pool_end pool_count
     pool-is = k.answer ∙ rw en
 
-    pub pool-fault : (o : List ℕ) (at : ℕ) → p ≡ Fault at → PoolRead f (pool_of f) (pool_end f) o o (Refused (DescriptorParseError at))
+    pub pool-fault : (o : List ℕ) (x : Fault) (r : Written) → p ≡ Err x → r ≡ Err (DescriptorParseError x.at) → PoolRead f (pool_of f) (pool_end f) o o r
     unfolding then_faults faults_from lowest output_after
-    pool-fault o at e = record { answer = sym (rw (← pool-is, e)); output = refl }
+    pool-fault o x r e er = rw er (record { answer = sym (rw (← pool-is, e)); output = refl })
 
-    module _ (at : ℕ) (e : p ≡ End at) where
+    module _ (at : ℕ) (e : p ≡ Ok at) where
       pub pool-within : n ≤ length t₁
       pool-within = k.within at e
 
@@ -140,20 +132,20 @@ table-many f t k = rw (le-leb 21846 (length t) k) (or-true (leb (pool_count f) (
 
 -- ---- the whole
 
-pub class-good : (f : List ℕ) (b : Bool) → b ≡ head_good f → not b ≡ false → head_good f ≡ true
-class-good f b eb e = sym eb ∙ not-false b e
+pub class-good : (f : List ℕ) (b : Bool) → b ≡ head_good f → b ≡ true → head_good f ≡ true
+class-good f b eb e = sym eb ∙ e
 
 module _ (f o : List ℕ) where
-  pub class-long : 65535 < length f → ClassRead f o o (Refused (TooLarge 0))
+  pub class-long : 65535 < length f → ClassRead f o o (Err (TooLarge 0))
   unfolding class_answer output_after
   class-long l = record { answer = sym (rw (lt-ltb 65535 (length f) l)); output = refl }
 
   module _ (l : length f ≤ 65535) (b : Bool) (eb : b ≡ head_good f) where
-    pub class-head : not b ≡ true → ClassRead f o o (Refused (DescriptorParseError 0))
+    pub class-head : b ≡ false → ClassRead f o o (Err (DescriptorParseError 0))
     unfolding class_answer output_after
-    class-head e = record { answer = sym (rw (le-ltb 65535 (length f) l) (Lowest.head-bad f _ (sym eb ∙ not-true b e))); output = refl }
+    class-head e = record { answer = sym (rw (le-ltb 65535 (length f) l) (Lowest.head-bad f _ (sym eb ∙ e))); output = refl }
 
-    pub class-read : not b ≡ false → (o₁ : List ℕ) (r : Written) → PoolRead f (pool_of f) (pool_end f) o o₁ r → ClassRead f o o₁ r
+    pub class-read : b ≡ true → (o₁ : List ℕ) (r : Written) → PoolRead f (pool_of f) (pool_end f) o o₁ r → ClassRead f o o₁ r
     unfolding class_answer items_of
     class-read e o₁ r p = record { answer = p.answer ∙ sym (rw (le-ltb 65535 (length f) l, Lowest.head_passed f (class-good f b eb e))); output = p.output }
 

@@ -1,164 +1,38 @@
--- What each return and each turn of the functions that measure entries shows.
-use Prim.Native.Nat.{ℕ, suc, ◌+◌, ◌*◌, ◌-◌, ◌≤◌, ◌<◌}
-use mathlib.Core.Path.{◌≡◌, refl, sym, ap, ◌∙◌}
-use mathlib.Core.List.{List, ◌++◌}
-use mathlib.Core.Bool.{Bool, true, false, cond, not, ◌&&◌, ◌||◌, or-false, or_assoc}
+-- What each return and each turn of the loops that measure shows.
+use Prim.Native.Nat.{ℕ, suc, ◌+◌, ◌*◌, ◌-◌, ◌^◌, ◌≤◌, ◌<◌}
+use mathlib.Core.Path.{◌≡◌, refl, sym, ◌∙◌}
+use mathlib.Core.List.{List, [], ◌∷◌, ◌++◌}
+use mathlib.Core.Bool.{Bool, true, false, cond, ◌&&◌, ◌||◌}
 use native.Mathlib.Omega.{arith}
-use mir.Syntax.{w64}
-use mir.Val.{Fits}
-use mir.Facts.{Fits-below}
-use lib.ListN.{length, length-append}
-use lib.Dec.{ltb, leb, eqb}
-use borrow.Author.Tests.{not-true, not-false, leb-true, lt-leb, le-leb, eq-eqb, ne_eqb, lt-ltb, le-ltb, ltb-true, ltb-false}
-use Rattle.records.specs.Bytes.{same_bytes, u16_at}
-use Rattle.records.specs.Name.{all_unnamed}
+use native.Mathlib.Numerals.{add-one}
+use lib.ListN.{length, drop, get_or, drop_of_length-le, length-append}
+use lib.Seq.{drop-cons}
+use lib.Dec.{ltb, leb}
+use borrow.Author.Tests.{leb-true, lt-ltb, le-ltb, ltb-true, ltb-false}
+use Rattle.std.proofs.Common.{Option, Some, None}
+use Rattle.std.specs.Option.{ForSome, option_map, option_and_then}
+use Rattle.records.specs.Bytes.{u16_at}
 use Rattle.records.specs.Output.{name_bytes, record_bytes}
 use Rattle.records.proofs.Logic.{and_left}
 use Rattle.records.proofs.output.Made.{made-long}
-use Rattle.class_reader.specs.Pool.{has_name, name_at, has_version, version_at}
-use Rattle.class_reader.specs.Entry.{Item, name_tag, kind_of, entry_end, names_good, rest_good, is_entry, prefix_of, suffix_of, list_bytes, entry_body, entry_item, bytes_of, is_large, entries_good, entries_end, entries_items}
-use Rattle.class_reader.specs.Measure.{faulty, pick_measured, adding, measure_entries, Small}
+use Rattle.class_reader.specs.Pool.{has_name, version_at}
+use Rattle.class_reader.specs.Entry.{Item, name_tag, entry_end, rest_good, is_entry, entry_body, entry_item, bytes_of, is_large, entries_good, entries_end, entries_items, module_tables}
+use Rattle.class_reader.specs.Measure.{with_items, adding, measure_entries, measure_table, measure_tables, Small}
 use Rattle.class_reader.specs.declared.entry.Entry.{Entry}
-use Rattle.class_reader.specs.declared.entry.Entry.TheVariants.{Module, Requires, Exports, Opens, Uses, Provides, Package, MainClass}
+use Rattle.class_reader.specs.declared.entry.Entry.TheVariants.{Requires, Exports, Opens, Uses, Provides}
 use Rattle.class_reader.specs.declared.measure.Measured.{Measured}
-use Rattle.class_reader.proofs.entry.Laws.{one_more}
-use Rattle.class_reader.proofs.entry.Names.{name-short}
-use Rattle.class_reader.proofs.entry.Small.{body-long, entry-small}
+use Rattle.class_reader.proofs.entry.Laws.{told_true, told_same, told_false}
+use Rattle.class_reader.proofs.entry.Small.{entry_small}
 
--- ---- plus
-
-pub plus_none : (a b : ℕ) → a ≡ 0 → 0 ≡ cond (eqb a 0) 0 (a + b)
-plus_none a b e = rw (eq-eqb a 0 e)
-
-pub plus-some : (a b : ℕ) → (a ≡ 0 → ⊥) → a + b ≡ cond (eqb a 0) 0 (a + b)
-plus-some a b e = rw (ne_eqb a 0 e)
-
--- ---- what stands around the name
-
-abbrev pub rest_size : Entry → List ℕ → List ℕ → ℕ → ℕ
-rest_size e f t p = cond (rest_good e f t p) (1 + (length (prefix_of e f p) + length (suffix_of e f t p))) 0
-
--- two more than a version's bytes, and k more where it is good
-version-plus : (b : Bool) (n k v : ℕ) → v ≡ cond b (2 + n) 0 → cond (eqb v 0) 0 (v + k) ≡ cond b (2 + n + k) 0
-version-plus true n k v e =
-    let z : eqb v 0 ≡ false = ne_eqb v 0 (λ w. omega arith) in
-    rw (z, e)
-version-plus false n k v e = rw (eq-eqb v 0 e)
-
-module _ (e : Entry) (f t : List ℕ) (p i v : ℕ) (ei : i ≡ u16_at f (p + 4)) (ev : v ≡ cond (has_version f t i) (2 + length (version_at f t i)) 0) where
-  pub rest_module : (r : ℕ) → e ≡ Module → r ≡ cond (eqb v 0) 0 (v + 3) → r ≡ rest_size e f t p
-  unfolding rest_good prefix_of suffix_of name_bytes
-  rest_module r ee er =
-      let n : 2 + length (version_at f t i) + 3 ≡ 1 + (3 + suc (length (version_at f t i))) = omega arith in
-      er ∙ version-plus (has_version f t i) (length (version_at f t i)) 3 v ev
-      ∙ rw (ee, ← ei) (ap (λ (y : ℕ). cond (has_version f t i) y 0) n)
-
-  module _ (ee : e ≡ Requires) (j : ℕ) (ej : j ≡ u16_at f p) (s : List ℕ) (es : s ≡ name_at f t j) (b : Bool) (eb : b ≡ same_bytes s all_unnamed) where
-    pub rest-requires : (r : ℕ) → b ≡ false → r ≡ cond (eqb v 0) 0 (v + 2) → r ≡ rest_size e f t p
-    unfolding rest_good prefix_of suffix_of name_bytes
-    rest-requires r h er =
-        let n : 2 + length (version_at f t i) + 2 ≡ 1 + (2 + suc (length (version_at f t i))) = omega arith in
-        er ∙ version-plus (has_version f t i) (length (version_at f t i)) 2 v ev
-        ∙ rw (ee, ← ei, ← ej, ← es, ← eb, h) (ap (λ (y : ℕ). cond (has_version f t i) y 0) n)
-
-pub rest-unnamed : (e : Entry) (f t : List ℕ) (p j : ℕ) (s : List ℕ) (b : Bool) → e ≡ Requires → j ≡ u16_at f p → s ≡ name_at f t j
-    → b ≡ same_bytes s all_unnamed → b ≡ true → 0 ≡ rest_size e f t p
-unfolding rest_good
-rest-unnamed e f t p j s b ee ej es eb h = rw (ee, ← ej, ← es, ← eb, h)
-
--- a version's bytes and a few more
-pub plus-low : (v r k : ℕ) → v ≤ 257 → k ≤ 3 → r ≡ cond (eqb v 0) 0 (v + k) → r ≤ 20000000
-plus-low v r k l lk er = go (eqb v 0) er where
-  go : (b : Bool) → r ≡ cond b 0 (v + k) → r ≤ 20000000
-  go true e = omega arith
-  go false e = omega arith
-
--- a list's bytes, and nothing before the name
-listed : (b : Bool) (n : ℕ) → cond b (1 + n) 0 ≡ cond b (1 + (0 + n)) 0
-listed b n = let z : 1 + n ≡ 1 + (0 + n) = omega arith in ap (λ (y : ℕ). cond b y 0) z
-
-module _ (e : Entry) (f t : List ℕ) (p n r : ℕ) where
-  module _ (en : n ≡ u16_at f (p + 4)) (er : r ≡ cond (names_good 19 f t n (p + 6)) (1 + length (list_bytes f t n (p + 6))) 0) where
-    pub rest_exports : e ≡ Exports → r ≡ rest_size e f t p
-    unfolding rest_good prefix_of suffix_of
-    rest_exports ee = er ∙ rw (ee, ← en) (listed (names_good 19 f t n (p + 6)) (length (list_bytes f t n (p + 6))))
-
-    pub rest-opens : e ≡ Opens → r ≡ rest_size e f t p
-    unfolding rest_good prefix_of suffix_of
-    rest-opens ee = er ∙ rw (ee, ← en) (listed (names_good 19 f t n (p + 6)) (length (list_bytes f t n (p + 6))))
-
-  pub rest_provides : n ≡ u16_at f (p + 2) → r ≡ cond (names_good 7 f t n (p + 4)) (1 + length (list_bytes f t n (p + 4))) 0 → e ≡ Provides
-      → r ≡ rest_size e f t p
-  unfolding rest_good prefix_of suffix_of
-  rest_provides en er ee = er ∙ rw (ee, ← en) (listed (names_good 7 f t n (p + 4)) (length (list_bytes f t n (p + 4))))
-
-module _ (e : Entry) (f t : List ℕ) (p : ℕ) where
-  pub rest_uses : e ≡ Uses → 1 ≡ rest_size e f t p
-  unfolding rest_good prefix_of suffix_of
-  rest_uses ee = rw ee
-
-  pub rest_package : e ≡ Package → 1 ≡ rest_size e f t p
-  unfolding rest_good prefix_of suffix_of
-  rest_package ee = rw ee
-
-  pub rest-main : e ≡ MainClass → 1 ≡ rest_size e f t p
-  unfolding rest_good prefix_of suffix_of
-  rest-main ee = rw ee
-
-pub list-low : (n r : ℕ) → n < 65536 → r ≤ 3 + 256 * n → r ≤ 20000000
-list-low n r ln lr = omega arith
-
--- ---- one entry
-
-abbrev pub entry_size : Entry → List ℕ → List ℕ → ℕ → ℕ
-entry_size e f t p = cond (is_entry e f t p) (4 + length (entry_body e f t p)) 0
-
-module _ (e : Entry) (f t : List ℕ) (p : ℕ) where
-  pub entry-short : (n : ℕ) → n ≡ entry_end e f p → length f < n → 0 ≡ entry_size e f t p
-  unfolding is_entry
-  entry-short n en l = rw (lt-leb (entry_end e f p) (length f) (rw (← en) l))
-
-  module _ (n : ℕ) (en : n ≡ entry_end e f p) (l : n ≤ length f) (i : ℕ) (ei : i ≡ u16_at f p) (k : ℕ) (ek : k ≡ name_tag e) (b : Bool)
-      (eb : b ≡ has_name k f t i) where
-    within : leb (entry_end e f p) (length f) ≡ true
-    within = le-leb (entry_end e f p) (length f) (rw (← en) l)
-
-    pub entry-unnamed : not b ≡ true → 0 ≡ entry_size e f t p
-    unfolding is_entry
-    entry-unnamed h = rw (within, ← ek, ← ei, ← eb, not-true b h)
-
-    module _ (h : not b ≡ false) (rest : ℕ) (er : rest ≡ rest_size e f t p) where
-      named : is_entry e f t p ≡ rest_good e f t p
-      unfolding is_entry
-      named = rw (within, ← ek, ← ei, ← eb, not-false b h)
-
-      pub entry-bad : rest ≡ 0 → 0 ≡ entry_size e f t p
-      entry-bad z = rw named (go (rest_good e f t p) er) where
-        go : (g : Bool) → rest ≡ cond g (1 + (length (prefix_of e f p) + length (suffix_of e f t p))) 0 → 0 ≡ cond g (4 + length (entry_body e f t p)) 0
-        go true w = absurd (omega arith)
-        go false w = refl
-
-      pub entry-is : (rest ≡ 0 → ⊥) → (s : List ℕ) → s ≡ name_at f t i → 4 + length s + rest ≡ entry_size e f t p
-      entry-is z s es = rw named (go (rest_good e f t p) er) where
-        go : (g : Bool) → rest ≡ cond g (1 + (length (prefix_of e f p) + length (suffix_of e f t p))) 0
-            → 4 + length s + rest ≡ cond g (4 + length (entry_body e f t p)) 0
-        go true w =
-            let n : length s ≡ length (name_at f t (u16_at f p)) = ap length (es ∙ ap (name_at f t) ei) in
-            omega (arith, body-long e f t p)
-        go false w = absurd (z w)
-
-      pub entry-sum : (s : List ℕ) → s ≡ name_at f t i → rest ≤ 20000000 → Fits w64 (4 + length s + rest)
-      entry-sum s es lr =
-          let n : length s ≤ 255 = rw es (name-short k f t i (sym eb ∙ not-false b h)) in
-          Fits-below {n = 20000259} tt (omega arith)
+pub version_long : (f t : List ℕ) (i : ℕ) → length (name_bytes (version_at f t i)) ≡ 1 + length (version_at f t i)
+unfolding name_bytes
+version_long f t i = omega arith
 
 -- ---- the loop over entries
 
-pub large_true : (l : Bool) (s : ℕ) → l ≡ true → true ≡ (l || ltb 65539 s)
-large_true l s e = rw e
-
-pub large_test : (l : Bool) (s : ℕ) → l ≡ false → ltb 65539 s ≡ (l || ltb 65539 s)
-large_test l s e = rw e
+-- the bytes so far with those of a record of n bytes
+abbrev pub with_bytes : Option ℕ → ℕ → Option ℕ
+with_bytes size n = cond (ltb 65539 n) None (option_map (λ m. m + n) size)
 
 over : (n : ℕ) → ltb 65539 (4 + n) ≡ ltb 65535 n
 over n = go (ltb 65535 n) refl where
@@ -166,101 +40,135 @@ over n = go (ltb 65535 n) refl where
   go true e = let l : 65535 < n = ltb-true 65535 n e in lt-ltb 65539 (4 + n) (omega arith)
   go false e = let l : n ≤ 65535 = ltb-false 65535 n e in le-ltb 65539 (4 + n) (omega arith)
 
--- i of the entries are measured
-pub record MeasureAt (f t : List ℕ) (e : Entry) (n next₀ size₀ : ℕ) (large₀ : Bool) (next size : ℕ) (large : Bool) (i : ℕ) : Type 0 where
-  pub few : length f ≤ 65535
-  pub within : i ≤ n
-  pub low : next ≤ length f
-  pub light : size ≤ 130 * next
-  pub left : measure_entries e f t n (record { next = next₀; size = size₀; large = large₀ })
-      ≡ measure_entries e f t (n - i) (record { next = next; size = size; large = large })
+-- a record, and those behind it
+with-more : (size : Option ℕ) (i : Item) (is : List Item) → with_items size (i ∷ is) ≡ with_items (with_bytes size (4 + length i.body)) is
+unfolding bytes_of is_large
+with-more None i is = rw over (go (ltb 65535 (length i.body)))
+  where
+    go : (b : Bool) → ◌≡◌ {A = Option ℕ} None (with_items (cond b None None) is)
+    go true = refl
+    go false = refl
+with-more (Some n) i is = rw over (go (ltb 65535 (length i.body)))
+  where
+    e : n + length (record_bytes i.kind i.body ++ bytes_of is) ≡ n + (4 + length i.body) + length (bytes_of is)
+    e = rw (length-append, made-long i.kind i.body) (omega arith)
 
-pub measure-start : (f t : List ℕ) (e : Entry) (n : ℕ) (from : Measured) → length f ≤ 65535 → Small f from
-    → MeasureAt f t e n from.next from.size from.large from.next from.size from.large 0
+    go : (b : Bool) → cond (b || is_large is) None (Some (n + length (record_bytes i.kind i.body ++ bytes_of is)))
+        ≡ with_items (cond b None (Some (n + (4 + length i.body)))) is
+    go true = refl
+    go false = rw e
+
+-- i of the entries are measured
+pub record MeasureAt (f t : List ℕ) (e : Entry) (n : ℕ) (from m : Measured) (i : ℕ) : Type 0 where
+  pub few : length f ≤ 65535
+  pub small : Small f m
+  pub left : measure_entries e f t n from ≡ measure_entries e f t (n - i) m
+
+pub measure-start : (f t : List ℕ) (e : Entry) (n : ℕ) (from : Measured) → length f ≤ 65535 → Small f from → MeasureAt f t e n from from 0
 measure-start f t e n from l h =
     let z : n - 0 ≡ n = omega arith in
-    record { few = l; within = omega arith; low = h.low; light = h.light; left = rw z }
+    record { few = l; small = h; left = rw z }
 
--- the first entry is measured
-entry-step : (f t : List ℕ) (e : Entry) (m next size : ℕ) (large : Bool) → is_entry e f t next ≡ true
-    → measure_entries e f t (suc m) (record { next = next; size = size; large = large })
-    ≡ measure_entries e f t m (record { next = entry_end e f next; size = size + (4 + length (entry_body e f t next)); large = large || ltb 65539 (4 + length (entry_body e f t next)) })
-unfolding measure_entries entries_good entries_end entries_items adding bytes_of is_large entry_item
-entry-step f t e m next size large h =
-    let is : List Item = entries_items e f t m (entry_end e f next) in
-    let body : List ℕ = entry_body e f t next in
-    let en : ℕ = entries_end e f m (entry_end e f next) in
-    let s : size + length (record_bytes (kind_of e) body ++ bytes_of is) ≡ size + (4 + length body) + length (bytes_of is) =
-    rw (length-append, made-long (kind_of e) body) (omega arith) in
-    let l : large || (ltb 65535 (length body) || is_large is) ≡ (large || ltb 65539 (4 + length body)) || is_large is =
-    rw (over (length body)) (sym (or_assoc large (ltb 65535 (length body)) (is_large is))) in
-    rw h
-    (ap (λ (y : ℕ). pick_measured (entries_good e f t m (entry_end e f next)) (record { next = en; size = y; large = large || (ltb 65535 (length body) || is_large is) }) faulty) s
-    ∙ ap (λ (y : Bool). pick_measured (entries_good e f t m (entry_end e f next)) (record { next = en; size = size + (4 + length body) + length (bytes_of is); large = y }) faulty) l)
+module _ {f t : List ℕ} {e : Entry} {n : ℕ} {from m : Measured} {i : ℕ} (h : MeasureAt f t e n from m i) where
+  pub measure-place : m.next ≤ 65541
+  measure-place = omega (arith, h.few, h.small.low)
 
--- a size that is not 0 is one of an entry
-good-entry : (b : Bool) (n s : ℕ) → s ≡ cond b (4 + n) 0 → (s ≡ 0 → ⊥) → b ≡ true
-good-entry true n s e z = refl
-good-entry false n s e z = absurd (z e)
+  module _ (l : i < n) where
+    next : n - i ≡ suc (n - (i + 1))
+    next = omega arith
 
-bad-entry : (b : Bool) (n s : ℕ) → s ≡ cond b (4 + n) 0 → s ≡ 0 → b ≡ false
-bad-entry true n s e z = absurd (omega arith)
-bad-entry false n s e z = refl
-
-entry-within : (e : Entry) (f t : List ℕ) (p : ℕ) → is_entry e f t p ≡ true → entry_end e f p ≤ length f
-unfolding is_entry
-entry-within e f t p h =
-    leb-true (entry_end e f p) (length f) (and_left (leb (entry_end e f p) (length f)) (has_name (name_tag e) f t (u16_at f p) && rest_good e f t p) h)
-
-pub faulty-small : (f : List ℕ) (r : Measured) → r ≡ faulty → Small f r
-faulty-small f r e = rw e (record { low = omega arith; light = omega arith })
-
-module _ (f t : List ℕ) (e : Entry) (n : ℕ) (from : Measured) (next size : ℕ) (large : Bool) (i : ℕ)
-    (h : MeasureAt f t e n from.next from.size from.large next size large i) where
-  pub measure-place : next ≤ 65541
-  measure-place = omega (arith, h.few, h.low)
-
-  module _ (l : i < n) (s : ℕ) (es : s ≡ entry_size e f t next) where
-    pub measure-bad : (r : Measured) → s ≡ 0 → r ≡ faulty → r ≡ measure_entries e f t n from
+    pub measure-bad : (r : Option Measured) → None ≡ cond (is_entry e f t m.next) (Some (4 + length (entry_body e f t m.next))) None → r ≡ None
+        → r ≡ measure_entries e f t n from
     unfolding measure_entries entries_good
-    measure-bad r z er =
-        er ∙ sym (h.left ∙ rw (one_more n i l, bad-entry (is_entry e f t next) (length (entry_body e f t next)) s es z))
+    measure-bad r b er =
+        let g : is_entry e f t m.next ≡ false = told_false (is_entry e f t m.next) (4 + length (entry_body e f t m.next)) (sym b) in
+        er ∙ sym (h.left ∙ rw (next, g))
 
-    module _ (z : s ≡ 0 → ⊥) where
-      good : is_entry e f t next ≡ true
-      good = good-entry (is_entry e f t next) (length (entry_body e f t next)) s es z
+    module _ (s : ℕ) (es : Some s ≡ cond (is_entry e f t m.next) (Some (4 + length (entry_body e f t m.next))) None) where
+      good : is_entry e f t m.next ≡ true
+      good = told_true (is_entry e f t m.next) (4 + length (entry_body e f t m.next)) s (sym es)
 
-      s-is : s ≡ 4 + length (entry_body e f t next)
-      s-is = es ∙ rw good
+      same : 4 + length (entry_body e f t m.next) ≡ s
+      same = told_same (is_entry e f t m.next) (4 + length (entry_body e f t m.next)) s (sym es)
 
-      pub measure-sum : Fits w64 (size + s)
-      measure-sum =
-          Fits-below {n = 8519550} tt
-          (omega (arith, h.few, h.light, s-is, entry-small e f t next good, entry-within e f t next good))
+      small : s + 130 * m.next ≤ 130 * entry_end e f m.next
+      small = rw same at (entry_small e f t m.next good)
 
-      pub measure-more : (b : Bool) → b ≡ (large || ltb 65539 s) → (p : ℕ) → p ≡ entry_end e f next → MeasureAt f t e n from.next from.size from.large p (size + s) b (i + 1)
-      measure-more b eb p ep = record {
+      within : entry_end e f m.next ≤ length f
+      unfolding is_entry
+      within = leb-true (entry_end e f m.next) (length f)
+          (and_left (leb (entry_end e f m.next) (length f)) (has_name (name_tag e) f t (u16_at f m.next) && rest_good e f t m.next) good)
+
+      pub measure-sum : ForSome m.size (λ k. k + s < 2 ^ 64)
+      measure-sum = go m.size refl
+        where
+          go : (o : Option ℕ) → m.size ≡ o → ForSome o (λ k. k + s < 2 ^ 64)
+          go None q = λ k w. absurd (cc)
+          go (Some a) q = λ k w. let v : a ≡ k = cc in omega (arith, h.small.light a q, small, within, h.few)
+
+      step : measure_entries e f t (suc (n - (i + 1))) m ≡ measure_entries e f t (n - (i + 1)) (record { next = entry_end e f m.next; size = with_bytes m.size s })
+      unfolding measure_entries entries_good entries_end entries_items adding entry_item
+      step = rw (good, with-more m.size (entry_item e f t m.next) (entries_items e f t (n - (i + 1)) (entry_end e f m.next)), same)
+
+      pub measure-more : (p : ℕ) (size : Option ℕ) → p ≡ entry_end e f m.next → size ≡ with_bytes m.size s → MeasureAt f t e n from (record { next = p; size = size }) (i + 1)
+      measure-more p size ep eq = record {
         few = h.few;
-        within = omega arith;
-        low = rw ep (entry-within e f t next good);
-        light = rw ep (omega (arith, h.light, s-is, entry-small e f t next good));
-        left = h.left ∙ rw (one_more n i l) (entry-step f t e (n - (i + 1)) next size large good ∙ rw (eb, ep, s-is));
+        small = record { low = rw ep within; light = λ k w. light k w };
+        left = h.left ∙ rw (next, ep, eq) step;
       }
+        where
+          light : (k : ℕ) → size ≡ Some k → k ≤ 130 * p
+          light k w = go m.size refl (ltb 65539 s) (sym eq ∙ w)
+            where
+              go : (o : Option ℕ) → m.size ≡ o → (b : Bool) → cond b None (option_map (λ x. x + s) o) ≡ Some k → k ≤ 130 * p
+              go None q true z = absurd (cc)
+              go None q false z = absurd (cc)
+              go (Some a) q true z = absurd (cc)
+              go (Some a) q false z = let v : a + s ≡ k = cc in rw ep (omega (arith, h.small.light a q, small))
 
-  pub measure-done : n ≤ i → record { next = next; size = size; large = large } ≡ measure_entries e f t n from
+  pub measure-done : n ≤ i → Some m ≡ measure_entries e f t n from
   unfolding measure_entries entries_good entries_end entries_items adding bytes_of is_large
   measure-done l =
       let z : n - i ≡ 0 = omega arith in
-      let s : size + 0 ≡ size = omega arith in
-      sym (h.left ∙ rw (z, s, or-false large))
+      sym (h.left ∙ rw z (go m.size refl))
+    where
+      go : (o : Option ℕ) → m.size ≡ o → ◌≡◌ {A = Option Measured} (Some (record { next = m.next; size = with_items m.size [] })) (Some m)
+      go None q = rw q (cc)
+      go (Some a) q = let y : a + 0 ≡ a = omega arith in rw (q, y) (cc)
 
-  pub measure-small : Small f (record { next = next; size = size; large = large })
-  measure-small = record { low = h.low; light = h.light }
+  pub measure-small : Small f m
+  measure-small = h.small
 
--- ---- the laws of each function
+pub ruleset measure-laws = (measure-start, measure-place, measure-bad, measure-sum, measure-more, measure-done, measure-small)
 
-pub ruleset rest-laws = (rest_module, rest-requires, rest-unnamed, plus-low, rest_exports, rest-opens, rest_provides, rest_uses, rest_package, rest-main, list-low)
+-- ---- the tables of a Module attribute
 
-pub ruleset entry-laws = (entry-short, entry-unnamed, entry-bad, entry-is, entry-sum)
+-- i of the tables are measured
+pub record TablesAt (f t : List ℕ) (from : Measured) (es : List Entry) (m : Measured) (i : ℕ) : Type 0 where
+  pub small : Small f m
+  pub left : measure_tables f t module_tables from ≡ measure_tables f t (drop i es) m
 
-pub ruleset measure-laws = (measure-start, measure-place, measure-bad, measure-sum, measure-more, measure-done, measure-small, faulty-small)
+pub tables_start : (f t : List ℕ) (from : Measured) (es : List Entry) → es ≡ module_tables → Small f from → TablesAt f t from es from 0
+tables_start f t from es e h = record { small = h; left = rw e }
+
+pub tables_all : Requires ∷ Exports ∷ Opens ∷ Uses ∷ Provides ∷ [] ≡ module_tables
+unfolding module_tables
+tables_all = refl
+
+module _ {f t : List ℕ} {from m : Measured} {es : List Entry} {i : ℕ} (h : TablesAt f t from es m i) where
+  module _ (l : i < length es) (d : Entry) where
+    turn : measure_tables f t module_tables from ≡ option_and_then (measure_tables f t (drop (suc i) es)) (measure_table (get_or es i d) f t m)
+    unfolding measure_tables
+    turn = h.left ∙ rw (drop-cons es i d l)
+
+    pub tables_bad : (r : Option Measured) → None ≡ measure_table (get_or es i d) f t m → r ≡ None → r ≡ measure_tables f t module_tables from
+    tables_bad r b er = er ∙ sym (turn ∙ rw (← b))
+
+    pub tables_more : (m' : Measured) → Some m' ≡ measure_table (get_or es i d) f t m → Small f m' → TablesAt f t from es m' (i + 1)
+    tables_more m' b k = record { small = k; left = rw add-one (turn ∙ rw (← b)) }
+
+  pub tables-done : length es ≤ i → Some m ≡ measure_tables f t module_tables from
+  unfolding measure_tables
+  tables-done l = sym (h.left ∙ rw (drop_of_length-le es {i = i} l))
+
+pub ruleset tables-laws = (tables_start, tables_all, tables_bad, tables_more, tables-done)

@@ -13,7 +13,6 @@ use Rattle.records.proofs.Logic.{and_left, and_right}
 use Rattle.class_reader.specs.Entry.{entry_end, is_entry, kind_of, entry_body, entry_item, bytes_of, is_large, entries_good, entries_end, entries_items, table_good, table_end, table_items}
 use Rattle.class_reader.specs.Output.{Room, PutItems}
 use Rattle.class_reader.specs.declared.entry.Entry.{Entry}
-use Rattle.class_reader.specs.declared.output.Placed.{Placed}
 use Rattle.class_reader.proofs.output.Items.{one-fits, rest-fits}
 use Rattle.class_reader.proofs.output.Parts.{entry-within}
 use Rattle.class_reader.proofs.output.Putting.{Putting, putting_start, putting_room, putting_more, putting_done}
@@ -94,7 +93,7 @@ module _ {o : List ℕ} {at : ℕ} {f t : List ℕ} {e : Entry} {n p : ℕ} {out
           putting = rw eq z;
         }
 
-  pub entries-done : n ≤ i → PutItems o at (entries_items e f t n p) (entries_end e f n p) out (record { at = b; next = q })
+  pub entries-done : n ≤ i → PutItems o at (entries_items e f t n p) (entries_end e f n p) out b q
   unfolding entries_end entries_items bytes_of
   entries-done l =
       let none : n - i ≡ 0 = omega arith in
@@ -126,6 +125,6 @@ module _ (o : List ℕ) (at : ℕ) (f t : List ℕ) (e : Entry) (p : ℕ) (s : l
     unfolding table_items
     table-room = rw en h
 
-    pub table-put : (out : List ℕ) (r : Placed) → PutItems o at (entries_items e f t n (p + 2)) (entries_end e f n (p + 2)) out r → PutItems o at (table_items e f t p) (table_end e f p) out r
+    pub table-put : (out : List ℕ) (r x : ℕ) → PutItems o at (entries_items e f t n (p + 2)) (entries_end e f n (p + 2)) out r x → PutItems o at (table_items e f t p) (table_end e f p) out r x
     unfolding table_items table_end
-    table-put out r q = rw en at q
+    table-put out r x q = rw en at q

@@ -1,161 +1,54 @@
 -- What stands before and behind the name of an entry, and the record of an entry.
-use Prim.Native.Nat.{ℕ, ◌+◌, ◌-◌, ◌*◌, ◌/◌, ◌%◌, ◌≤◌, ◌<◌}
-use mathlib.Core.Path.{◌≡◌, refl, sym, ap}
+use Prim.Native.Nat.{ℕ, ◌+◌, ◌-◌, ◌/◌, ◌%◌, ◌≤◌, ◌<◌}
+use mathlib.Core.Path.{◌≡◌, refl, sym, ap, ◌∙◌}
 use mathlib.Core.List.{List, [], ◌∷◌, ◌++◌}
-use mathlib.Core.Bool.{true, ◌&&◌, not}
+use mathlib.Core.Bool.{true, ◌&&◌}
+use mathlib.Core.Logic.{◌⊎◌, inl, inr}
 use native.Mathlib.Omega.{arith}
-use lib.ListN.{length, get_or, length-append}
+use lib.ListN.{length, length-append}
 use lib.Dec.{leb}
 use borrow.Author.Tests.{leb-true}
-use Rattle.records.specs.Bytes.{same_bytes, u16_at}
-use Rattle.records.specs.Name.{all_unnamed}
+use Rattle.records.specs.Bytes.{u16_at}
 use Rattle.records.specs.Record.{mark_for}
 use Rattle.records.specs.Output.{Put, two_bytes, name_bytes, record_bytes}
 use Rattle.records.proofs.Logic.{and_left, and_right}
 use Rattle.records.proofs.output.Written.{put-long, written_none, first-room, second-room, third-room, put_three}
-use Rattle.class_reader.specs.Pool.{has_name, name_at, has_version, version_at}
-use Rattle.class_reader.specs.Entry.{names_good, list_bytes, name_tag, entry_end, rest_good, is_entry, kind_of, high_flags, prefix_of, suffix_of, entry_body, entry_item, bytes_of}
+use Rattle.class_reader.specs.Pool.{has_name, name_at}
+use Rattle.class_reader.specs.Entry.{names_good, list_bytes, name_tag, entry_end, rest_good, is_entry, kind_of, prefix_of, suffix_of, entry_body, entry_item, bytes_of}
 use Rattle.class_reader.specs.Output.{NamesRoom, Room, Marked}
+use Rattle.records.specs.declared.record.Kind.{Kind}
 use Rattle.class_reader.specs.declared.entry.Entry.{Entry}
-use Rattle.class_reader.specs.declared.entry.Entry.TheVariants.{Module, Requires, Exports, Opens, Uses, Provides, Package, MainClass}
-use Rattle.class_reader.proofs.entry.Names.{name-short, version-short, all_short_lem}
+use Rattle.class_reader.specs.declared.entry.Entry.TheVariants.{Exports, Opens, Provides}
+use Rattle.class_reader.proofs.entry.Names.{name_short, version_short, all_short_lem}
 use Rattle.class_reader.proofs.output.Putting.{put_front}
 
 -- nothing is written
-none-put : (o : List ℕ) (at : ℕ) → Put o at [] o at
-none-put o at = record { place = omega arith; bytes = sym (written_none o at) }
+pub none_put : (o : List ℕ) (at : ℕ) → Put o at [] o at
+none_put o at = record { place = omega arith; bytes = sym (written_none o at) }
 
--- ---- behind the name
+pub name_long : (s : List ℕ) → length (name_bytes s) ≡ 1 + length s
+unfolding name_bytes
+name_long s = omega arith
 
-module _ (o : List ℕ) (at : ℕ) (f t : List ℕ) (e : Entry) (p : ℕ) (g : rest_good e f t p ≡ true) (h : at + length (suffix_of e f t p) ≤ length o) where
-  name-room : (v : List ℕ) → suffix_of e f t p ≡ name_bytes v → at + (1 + length v) ≤ length o
-  unfolding name_bytes
-  name-room v es = omega (arith, h, ap length es)
+-- ---- a list behind the name
 
-  list-room : (k n q : ℕ) → suffix_of e f t p ≡ list_bytes f t n q → names_good k f t n q ≡ true → n < 65536 → q ≤ 65547 → NamesRoom o (at + 2) f t n q
+module _ (o : List ℕ) (at : ℕ) (f t : List ℕ) (p n : ℕ) (l : p ≤ 65541) (ln : n < 65536) where
+  list-room : (k q : ℕ) → at + length (list_bytes f t n q) ≤ length o → names_good k f t n q ≡ true → q ≤ 65547 → NamesRoom o (at + 2) f t n q
   unfolding list_bytes two_bytes
-  list-room k n q es gn ln lq = record { few = omega arith; low = lq; room = omega (arith, h, ap length es); short = all_short_lem k f t n q gn }
+  list-room k q h gn lq = record { few = omega arith; low = lq; room = omega (arith, h); short = all_short_lem k f t n q gn }
 
-  module _ (k : ℕ) (v : List ℕ) (ek : k ≡ u16_at f (p + 4)) (ev : v ≡ version_at f t k) where
-    pub module_short : e ≡ Module → length v ≤ 255
-    unfolding rest_good
-    module_short ee = rw (ev, ek) (version-short f t (u16_at f (p + 4)) (rw ee at g))
+  pub flagged-room : (e : Entry) → (e ≡ Exports) ⊎ (e ≡ Opens) → n ≡ u16_at f (p + 4) → rest_good e f t p ≡ true → at + length (suffix_of e f t p) ≤ length o
+      → NamesRoom o (at + 2) f t n (p + 6)
+  unfolding suffix_of rest_good
+  flagged-room e (inl ee) en g h = list-room 19 (p + 6) (rw en (rw ee at h)) (rw en (rw ee at g)) (omega arith)
+  flagged-room e (inr ee) en g h = list-room 19 (p + 6) (rw en (rw ee at h)) (rw en (rw ee at g)) (omega arith)
 
-    pub requires-short : e ≡ Requires → length v ≤ 255
-    unfolding rest_good
-    requires-short ee =
-        rw (ev, ek)
-        (version-short f t (u16_at f (p + 4))
-        (and_right (not (same_bytes (name_at f t (u16_at f p)) all_unnamed)) (has_version f t (u16_at f (p + 4))) (rw ee at g)))
+  pub provides-room : (e : Entry) → e ≡ Provides → n ≡ u16_at f (p + 2) → rest_good e f t p ≡ true → at + length (suffix_of e f t p) ≤ length o
+      → NamesRoom o (at + 2) f t n (p + 4)
+  unfolding suffix_of rest_good
+  provides-room e ee en g h = list-room 7 (p + 4) (rw en (rw ee at h)) (rw en (rw ee at g)) (omega arith)
 
-    pub module_room : e ≡ Module → at + (1 + length v) ≤ length o
-    unfolding suffix_of
-    module_room ee = name-room v (rw (ee, ev, ek))
-
-    pub requires-room : e ≡ Requires → at + (1 + length v) ≤ length o
-    unfolding suffix_of
-    requires-room ee = name-room v (rw (ee, ev, ek))
-
-    module _ (out : List ℕ) (r : ℕ) (q : Put o at (name_bytes v) out r) where
-      pub module_put : e ≡ Module → Put o at (suffix_of e f t p) out r
-      unfolding suffix_of
-      module_put ee = rw ee (rw (ev, ek) at q)
-
-      pub requires-put : e ≡ Requires → Put o at (suffix_of e f t p) out r
-      unfolding suffix_of
-      requires-put ee = rw ee (rw (ev, ek) at q)
-
-  module _ (l : p ≤ 65541) (n : ℕ) (en : n ≡ u16_at f (p + 4)) where
-    pub exports_room : n < 65536 → e ≡ Exports → NamesRoom o (at + 2) f t n (p + 6)
-    unfolding suffix_of rest_good
-    exports_room ln ee = list-room 19 n (p + 6) (rw (ee, en)) (rw en (rw ee at g)) ln (omega arith)
-
-    pub opens-room : n < 65536 → e ≡ Opens → NamesRoom o (at + 2) f t n (p + 6)
-    unfolding suffix_of rest_good
-    opens-room ln ee = list-room 19 n (p + 6) (rw (ee, en)) (rw en (rw ee at g)) ln (omega arith)
-
-    module _ (out : List ℕ) (r : ℕ) (q : Put o at (list_bytes f t n (p + 6)) out r) where
-      pub exports_put : e ≡ Exports → Put o at (suffix_of e f t p) out r
-      unfolding suffix_of
-      exports_put ee = rw ee (rw en at q)
-
-      pub opens-put : e ≡ Opens → Put o at (suffix_of e f t p) out r
-      unfolding suffix_of
-      opens-put ee = rw ee (rw en at q)
-
-  module _ (l : p ≤ 65541) (n : ℕ) (en : n ≡ u16_at f (p + 2)) where
-    pub provides_room : n < 65536 → e ≡ Provides → NamesRoom o (at + 2) f t n (p + 4)
-    unfolding suffix_of rest_good
-    provides_room ln ee = list-room 7 n (p + 4) (rw (ee, en)) (rw en (rw ee at g)) ln (omega arith)
-
-    pub provides_put : (out : List ℕ) (r : ℕ) → Put o at (list_bytes f t n (p + 4)) out r → e ≡ Provides → Put o at (suffix_of e f t p) out r
-    unfolding suffix_of
-    provides_put out r q ee = rw ee (rw en at q)
-
-module _ (o : List ℕ) (at : ℕ) (f t : List ℕ) (e : Entry) (p : ℕ) where
-  pub uses_put : e ≡ Uses → Put o at (suffix_of e f t p) o at
-  unfolding suffix_of
-  uses_put ee = rw ee (none-put o at)
-
-  pub package_put : e ≡ Package → Put o at (suffix_of e f t p) o at
-  unfolding suffix_of
-  package_put ee = rw ee (none-put o at)
-
-  pub main-put : e ≡ MainClass → Put o at (suffix_of e f t p) o at
-  unfolding suffix_of
-  main-put ee = rw ee (none-put o at)
-
--- ---- before the name
-
-pub high_is : (x : ℕ) → x / 128 % 2 * 128 + x / 16 % 2 * 16 ≡ high_flags x
-unfolding high_flags
-high_is x = refl
-
-pub high_fits : (x : ℕ) → x / 128 % 2 * 128 + x / 16 % 2 * 16 ≤ 255
-high_fits x = omega arith
-
-module _ (o : List ℕ) (at : ℕ) (f : List ℕ) (e : Entry) (p : ℕ) (h : at + length (prefix_of e f p) ≤ length o) where
-  pub module_flags : e ≡ Module → at + 3 ≤ length o
-  unfolding prefix_of
-  module_flags ee = rw ee at h
-
-  pub requires-flags : e ≡ Requires → at + 2 ≤ length o
-  unfolding prefix_of
-  requires-flags ee = rw ee at h
-
-  module _ (x high low : ℕ) (ex : x ≡ get_or f (p + 2) 0) (eh : high ≡ high_flags x) (el : low ≡ get_or f (p + 3) 0) (out : List ℕ) (r : ℕ) where
-    pub module_front : Put o at (high ∷ (low / 32 % 2 * 32) ∷ 0 ∷ []) out r → e ≡ Module → Put o at (prefix_of e f p) out r
-    unfolding prefix_of
-    module_front q ee = rw ee (rw (eh, ex, el) at q)
-
-    pub requires-front : Put o at (high ∷ (low / 32 % 4 * 32) ∷ []) out r → e ≡ Requires → Put o at (prefix_of e f p) out r
-    unfolding prefix_of
-    requires-front q ee = rw ee (rw (eh, ex, el) at q)
-
-module _ (o : List ℕ) (at : ℕ) (f : List ℕ) (e : Entry) (p : ℕ) where
-  pub exports_front : e ≡ Exports → Put o at (prefix_of e f p) o at
-  unfolding prefix_of
-  exports_front ee = rw ee (none-put o at)
-
-  pub opens-front : e ≡ Opens → Put o at (prefix_of e f p) o at
-  unfolding prefix_of
-  opens-front ee = rw ee (none-put o at)
-
-  pub uses_front : e ≡ Uses → Put o at (prefix_of e f p) o at
-  unfolding prefix_of
-  uses_front ee = rw ee (none-put o at)
-
-  pub provides_front : e ≡ Provides → Put o at (prefix_of e f p) o at
-  unfolding prefix_of
-  provides_front ee = rw ee (none-put o at)
-
-  pub package_front : e ≡ Package → Put o at (prefix_of e f p) o at
-  unfolding prefix_of
-  package_front ee = rw ee (none-put o at)
-
-  pub main-front : e ≡ MainClass → Put o at (prefix_of e f p) o at
-  unfolding prefix_of
-  main-front ee = rw ee (none-put o at)
+pub ruleset suffix_laws = (none_put, name_long, version_short)
 
 -- ---- a mark and a length
 
@@ -210,7 +103,7 @@ module _ (o : List ℕ) (at : ℕ) (f t : List ℕ) (e : Entry) (p : ℕ) (g : i
   body-front = first-room o at front name end three
 
   pub body_short : length (name_at f t (u16_at f p)) ≤ 255
-  body_short = name-short (name_tag e) f t (u16_at f p) (entry_named e f t p g)
+  body_short = name_short (name_tag e) f t (u16_at f p) (entry_named e f t p g)
 
   module _ (o₁ : List ℕ) (b : ℕ) (q : Put o at (prefix_of e f p) o₁ b) where
     pub body-name : b + length (name_bytes (name_at f t (u16_at f p))) ≤ length o₁
@@ -246,10 +139,11 @@ module _ (o : List ℕ) (at : ℕ) (f t : List ℕ) (e : Entry) (p : ℕ) (h : R
     pub entry-behind : at + 4 ≤ b
     entry-behind = omega (arith, q.place)
 
-    pub entry-put : (mark : ℕ) (out : List ℕ) (r : ℕ) → Marked o₁ at mark b out r → mark ≡ mark_for (kind_of e)
+    pub entry-put : (kind : Kind) (mark : ℕ) (out : List ℕ) (r : ℕ) → Marked o₁ at mark b out r → kind ≡ kind_of e → mark ≡ mark_for kind
         → Put o at (record_bytes (kind_of e) (entry_body e f t p)) out r
     unfolding record_bytes two_bytes
-    entry-put mark out r m em =
+    entry-put kind mark out r m ek em' =
+        let em : mark ≡ mark_for (kind_of e) = em' ∙ ap mark_for ek in
         let z : b - (at + 4) ≡ length (entry_body e f t p) = omega (arith, q.place) in
         let s : Put o₁ at (two_bytes mark ++ two_bytes (b - (at + 4))) out (at + 4) = record { place = refl; bytes = m.bytes } in
         let a : Put o at ((two_bytes mark ++ two_bytes (b - (at + 4))) ++ entry_body e f t p) out b =

@@ -13,7 +13,8 @@ use Rattle.records.specs.Bytes.{u16_at}
 use Rattle.records.proofs.Logic.{clash, and_left, and_right}
 use Rattle.class_reader.specs.Pool.{widths, tag_at, width_at, takes_two, is_defined, is_constant, pool_from, offsets_from}
 use Rattle.class_reader.specs.Table.{Filled}
-use Rattle.class_reader.specs.declared.pool.Pool.TheVariants.{End, Fault}
+use Rattle.std.proofs.Common.{Result, Ok, Err}
+use Rattle.class_reader.specs.declared.pool.Fault.{Fault}
 use Rattle.class_reader.proofs.pool.Widths.{tag-wide}
 
 -- ---- a constant takes three bytes or more, and one with two indices six or more
@@ -92,7 +93,7 @@ module _ (f : List ℕ) (count : ℕ) (before table : List ℕ) (at i : ℕ) whe
     pub fill-long : length table ≡ length before
     fill-long = h.long
 
-    pub fill_end : count ≤ i → Filled f count before table (End at)
+    pub fill_end : count ≤ i → Filled f count before table (Ok at)
     unfolding pool_from offsets_from
     fill_end l =
         let e : count ≡ i = omega (arith, h.last) in
@@ -105,7 +106,7 @@ module _ (f : List ℕ) (count : ℕ) (before table : List ℕ) (at i : ℕ) whe
           offsets = λ a q. ap (λ (n : ℕ). take n table) e ∙ sym (append-nil (take i table)) ∙ (rw z at h.offsets);
         }
       where
-        go : (a : ℕ) → End at ≡ End a → a ≤ length f
+        go : (a : ℕ) → ◌≡◌ {A = Result ℕ Fault} (Ok at) (Ok a) → a ≤ length f
         go a q = let k : at ≡ a = cc in rw k at h.within
 
     module _ (l : i < count) where
@@ -124,7 +125,7 @@ module _ (f : List ℕ) (count : ℕ) (before table : List ℕ) (at i : ℕ) whe
       }
 
       module _ (c : Bool) (ec : c ≡ is_constant f (count - i) at) (e : second ≡ false) where
-        pub fill-fault : not c ≡ true → Filled f count before table (Fault at)
+        pub fill-fault : not c ≡ true → Filled f count before table (Err (record { at = at }))
         unfolding pool_from
         fill-fault ne =
             let n : is_constant f (suc (count - (i + 1))) at ≡ false = rw (← less l) (sym ec ∙ not-true c ne) in

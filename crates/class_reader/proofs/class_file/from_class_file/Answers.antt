@@ -8,8 +8,5 @@ returns-then-file-gt65535 c = search (class-laws, rules)
 pub returns-then-not-head_good : goal.returns-then-not-head_good
 returns-then-not-head_good c = search (class-laws, rules)
 
-pub read_constants-requires : goal.read_constants-requires
-read_constants-requires c = search (class-laws, rules)
-
 pub returns : goal.returns
 returns c = search (class-laws, rules)

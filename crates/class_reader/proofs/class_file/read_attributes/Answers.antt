@@ -1,30 +1,28 @@
-use Rattle.class_reader.proofs.class_file.Reading.{behind-laws, behind-found, behind-measured, behind-small}
+use Rattle.std.proofs.lemmas.Result.{err_from_is_err_and}
+use Rattle.class_reader.proofs.class_file.Reading.{behind-fault, behind-found, behind-measured, behind-read, behind-laws}
+use mathlib.Core.Path.{refl}
 use borrow.Author.Rules.{rules}
 use Rattle.class_reader.proofs.class_file.read_attributes.Goals as goal
-
-pub fields_good-requires : goal.fields_good-requires
-fields_good-requires c = search (behind-laws, rules)
 
 pub returns-then-not-fields_good : goal.returns-then-not-fields_good
 returns-then-not-fields_good c = search (behind-laws, rules)
 
-pub overflow_add-at : goal.overflow_add-at
-overflow_add-at c = search (behind-laws, rules)
-
-pub be16-requires : goal.be16-requires
-be16-requires c = search (behind-laws, rules)
-
-pub overflow_add-at-2 : goal.overflow_add-at-2
-overflow_add-at-2 c = search (behind-laws, rules)
-
 pub walk-requires : goal.walk-requires
 walk-requires c = search (behind-laws, rules)
 
-pub write_descriptor-requires : goal.write_descriptor-requires
-write_descriptor-requires c = record { file_len_bound = search rules; readable = search behind-found; m_value = search behind-measured; small = search behind-small }
+pub returns-in_err-walked : goal.returns-in_err-walked
+returns-in_err-walked c =
+    let p = err_from_is_err_and c.from_residual.result c.from_residual.ensures.1 in
+    rw (p.1, p.2) (behind-fault _ _ _ _ c.fields_good.ensures c.if-not-fields_good.false _ c.be16.ensures.value _ _ _ c.in_err-walked.ensures.value refl)
 
-pub returns-in-Fault : goal.returns-in-Fault
-returns-in-Fault c = search (behind-laws, rules)
+pub write_descriptor-requires-clause-readable : goal.write_descriptor-requires-clause-readable
+write_descriptor-requires-clause-readable c =
+    behind-found _ _ _ _ c.fields_good.ensures c.if-not-fields_good.false _ c.be16.ensures.value _ c.in_ok-walked.ensures.value
 
-pub returns-in-Found : goal.returns-in-Found
-returns-in-Found c = search (behind-laws, rules)
+pub write_descriptor-requires-clause-size_value : goal.write_descriptor-requires-clause-size_value
+write_descriptor-requires-clause-size_value c =
+    behind-measured _ _ _ _ c.fields_good.ensures c.if-not-fields_good.false _ c.be16.ensures.value _ c.in_ok-walked.ensures.value
+
+pub returns : goal.returns
+returns c =
+    behind-read _ _ _ _ c.fields_good.ensures c.if-not-fields_good.false _ c.be16.ensures.value _ c.in_ok-walked.ensures.value _ _ _ c.write_descriptor.ensures

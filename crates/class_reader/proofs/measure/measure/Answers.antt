@@ -1,36 +1,27 @@
-use Rattle.class_reader.proofs.measure.Laws.{measure-laws}
+use Rattle.class_reader.proofs.measure.Laws.{measure-sum, measure-more, measure-laws}
 use borrow.Author.Rules.{rules}
 use Rattle.class_reader.proofs.measure.measure.Goals as goal
 
 pub loop-i-init : goal.loop-i-init
 loop-i-init c = search (measure-laws, rules)
 
-pub entry_size-s-requires : goal.entry_size-s-requires
-entry_size-s-requires c = search (measure-laws, rules)
+pub entry_size-requires : goal.entry_size-requires
+entry_size-requires c = search (measure-laws, rules)
 
-pub faulty-requires : goal.faulty-requires
-faulty-requires c = search (measure-laws, rules)
+pub end-requires : goal.end-requires
+end-requires c = search (measure-laws, rules)
 
-pub returns-then-s-eq0 : goal.returns-then-s-eq0
-returns-then-s-eq0 c = search (measure-laws, rules)
+pub returns-in_err-bytes-clause-value : goal.returns-in_err-bytes-clause-value
+returns-in_err-bytes-clause-value c = search (measure-laws, rules)
 
-pub or_large-large-requires : goal.or_large-large-requires
-or_large-large-requires c = search (measure-laws, rules)
-
-pub overflow_add-size : goal.overflow_add-size
-overflow_add-size c = search (measure-laws, rules)
-
-pub entry_end-next-requires : goal.entry_end-next-requires
-entry_end-next-requires c = search (measure-laws, rules)
-
-pub overflow_add-i : goal.overflow_add-i
-overflow_add-i c = search (measure-laws, rules)
-
-pub loop-i-smaller : goal.loop-i-smaller
-loop-i-smaller c = search (measure-laws, rules)
+pub with_record-requires : goal.with_record-requires
+with_record-requires c = measure-sum c.loop-i.invariant c.loop-i-test.true _ c.in_ok-bytes.ensures
 
 pub loop-i-preserved : goal.loop-i-preserved
-loop-i-preserved c = search (measure-laws, rules)
+loop-i-preserved c = measure-more c.loop-i.invariant c.loop-i-test.true _ c.in_ok-bytes.ensures _ _ c.end.ensures c.with_record.ensures
 
-pub returns : goal.returns
-returns c = search (measure-laws, rules)
+pub returns-clause-value : goal.returns-clause-value
+returns-clause-value c = search (measure-laws, rules)
+
+pub returns-clause-small : goal.returns-clause-small
+returns-clause-small c = search (measure-laws, rules)

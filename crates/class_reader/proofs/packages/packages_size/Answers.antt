@@ -1,17 +1,18 @@
-use Rattle.class_reader.proofs.packages.Sizes.{size-start, size-term, size-sum, size-more, size-done, size_low}
+use borrow.Author.Rules.{rules}
+use Rattle.class_reader.proofs.packages.Sizes.{size-laws}
 use Rattle.class_reader.proofs.packages.packages_size.Goals as goal
 
-pub loop-i-init : goal.loop-i-init
-loop-i-init c = search size-start
+pub loop-entry-init : goal.loop-entry-init
+loop-entry-init c = search (size-laws, rules)
 
 pub overflow_add-size : goal.overflow_add-size
-overflow_add-size c = search size-term
+overflow_add-size c = search (size-laws, rules)
 
-pub overflow_add-size-in-loop-i : goal.overflow_add-size-in-loop-i
-overflow_add-size-in-loop-i c = search size-sum
+pub overflow_add-size-in-loop-entry : goal.overflow_add-size-in-loop-entry
+overflow_add-size-in-loop-entry c = search (size-laws, rules)
 
-pub loop-i-preserved : goal.loop-i-preserved
-loop-i-preserved c = search size-more
+pub loop-entry-preserved : goal.loop-entry-preserved
+loop-entry-preserved c = search (size-laws, rules)
 
 pub returns : goal.returns
-returns c = record { value = search size-done; upper_bound = search size_low }
+returns c = search (size-laws, rules)
