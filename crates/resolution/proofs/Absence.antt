@@ -11,13 +11,10 @@ use Rattle.records.specs.Name.{name_of}
 use Rattle.records.specs.Record.{records, bodies, body_of, is_of, nth_in, nth_of, pick_next}
 use Rattle.records.specs.Descriptor.{Requirement, Descriptor, requirement_of, descriptor_of}
 use Rattle.records.specs.Request.{request_of, check_inputs}
-use Rattle.records.specs.Set.{block_at, modules, check_set}
-use Rattle.records.specs.declared.record.Next.{Next}
-use Rattle.records.specs.declared.record.Next.TheVariants.{Body, Nothing}
+use Rattle.records.specs.Set.{block_at, modules, check_set, count_of, starts_in}
+use Rattle.records.specs.Record.{Next}
 use Rattle.records.specs.declared.record.Kind.{Kind}
-use Rattle.records.specs.declared.set.Checked.{Checked}
-use Rattle.records.specs.declared.set.SetAnswer.{SetAnswer}
-use Rattle.records.specs.declared.set.SetAnswer.TheVariants.{Modules}
+use Rattle.records.specs.Set.{CountAnswer}
 use Rattle.records.proofs.Logic.{true≠false}
 use Rattle.records.proofs.record.Bodies.{nth-body, nth-nothing}
 use Rattle.records.proofs.set.Blocks.{GoodSet, good-set}
@@ -30,13 +27,13 @@ use Rattle.resolution.specs.Resolve.{body_start, start_in, absent_of, error_of, 
 use Rattle.resolution.specs.Configuration.{word_count}
 use Rattle.resolution.proofs.ConfigurationWords.{with_enough}
 use Rattle.resolution.specs.Absent.{part_of, absent_in, absent_name}
-use Rattle.resolution.specs.declared.resolve.Outcome.TheVariants.{Refused}
 use Rattle.resolution.proofs.Accepted.{trivial}
 use Rattle.resolution.proofs.Line.{Whatever}
 use Rattle.resolution.proofs.Positions.{visible_in}
 use Rattle.resolution.proofs.Refusals.{AbsentBy, refusal-caused}
 use Rattle.resolution.proofs.Sets.{set-length, module_block}
 use Rattle.records.proofs.request.Taken.{inputs-taken}
+use Rattle.std.specs.Prelude.{Some, None, Ok, Err}
 
 -- ---- a name in a record, as a part of the whole
 
@@ -76,8 +73,8 @@ prefix-nil n c y h = record { size = 0; is = h.is ∙ ap (take h.size) (drop-nil
 
 -- where record j stands, told from another offset
 abbrev Shifted : ℕ → Next → Next → Type 0
-Shifted off Nothing r = r ≡ Nothing
-Shifted off (Body start len next) r = body_start r ≡ off + start
+Shifted off None r = r ≡ None
+Shifted off (Some span) r = body_start r ≡ off + span.start
 
 nth-shift : (k : Kind) (off : ℕ) (rs : List (List ℕ)) (j at : ℕ) → Shifted off (nth_in k j at rs) (nth_in k j (off + at) rs)
 unfolding nth_in body_start
@@ -85,8 +82,8 @@ nth-shift k off [] j at = refl
 nth-shift k off (r ∷ rs) zero at = turned (is_of k r) (nth-shift k off rs zero (at + length r))
   where
     turned : (b : Bool) → Shifted off (nth_in k zero (at + length r) rs) (nth_in k zero (off + (at + length r)) rs)
-        → Shifted off (pick_next b (Body (at + 4) (length (body_of r)) (record { at = at + length r })) (nth_in k zero (at + length r) rs))
-        (pick_next b (Body (off + at + 4) (length (body_of r)) (record { at = off + at + length r })) (nth_in k zero (off + at + length r) rs))
+        → Shifted off (pick_next b (Some (record { start = at + 4; len = length (body_of r); next = record { at = at + length r } })) (nth_in k zero (at + length r) rs))
+        (pick_next b (Some (record { start = off + at + 4; len = length (body_of r); next = record { at = off + at + length r } })) (nth_in k zero (off + at + length r) rs))
     turned true h = omega arith
     turned false h = let z : off + (at + length r) ≡ off + at + length r = omega arith in subst (λ (x : ℕ). Shifted off (nth_in k zero (at + length r) rs) (nth_in k zero x rs)) z h
 nth-shift k off (r ∷ rs) (suc j) at = turned (is_of k r) (nth-shift k off rs j (at + length r)) (nth-shift k off rs (suc j) (at + length r))
@@ -104,15 +101,15 @@ pub body-part : (k : Kind) (j : ℕ) (s b : List ℕ) (off len : ℕ) → b ≡ 
 body-part k j s b off len eb n c h = turned (nth_in k j 0 (records b)) refl (subst (λ (x : ℕ). Shifted off (nth_in k j 0 (records b)) (nth_in k j x (records b))) (add-zero off) (nth-shift k off (records b) j 0))
   where
     turned : (r : Next) → r ≡ nth_in k j 0 (records b) → Shifted off r (nth_in k j off (records b)) → Prefix n (drop (body_start (nth_in k j off (records b)) + c) s)
-    turned Nothing e w =
+    turned None e w =
         prefix-nil n c (drop (body_start (nth_in k j off (records b)) + c) s)
-        (subst (λ (x : List ℕ). Prefix n (drop c x)) (sym (nth-nothing k b j Nothing (unfold nth_of in e) refl)) h)
-    turned (Body start size next) e w =
-        let body : take size (drop start b) ≡ get_or (bodies k b) j [] = nth-body k b j (Body start size next) (unfold nth_of in e) start size next (take size (drop start b)) refl refl in
-        let p : Prefix n (drop c (drop start b)) = prefix_in n c size (drop start b) (subst (λ (x : List ℕ). Prefix n (drop c x)) (sym body) h) in
-        let p₂ : Prefix n (drop (start + c) (take len (drop off s))) = subst (λ (x : List ℕ). Prefix n (drop (start + c) x)) eb (subst (Prefix n) (drop-drop c start b) p) in
-        let p₃ : Prefix n (drop (off + (start + c)) s) = subst (Prefix n) (drop-drop (start + c) off s) (prefix_in n (start + c) len (drop off s) p₂) in
-        let z : off + (start + c) ≡ body_start (nth_in k j off (records b)) + c = omega (arith, w) in
+        (subst (λ (x : List ℕ). Prefix n (drop c x)) (sym (nth-nothing k b j None (unfold nth_of in e) refl)) h)
+    turned (Some span) e w =
+        let body : take span.len (drop span.start b) ≡ get_or (bodies k b) j [] = nth-body k b j (Some span) (unfold nth_of in e) span (take span.len (drop span.start b)) refl refl in
+        let p : Prefix n (drop c (drop span.start b)) = prefix_in n c span.len (drop span.start b) (subst (λ (x : List ℕ). Prefix n (drop c x)) (sym body) h) in
+        let p₂ : Prefix n (drop (span.start + c) (take len (drop off s))) = subst (λ (x : List ℕ). Prefix n (drop (span.start + c) x)) eb (subst (Prefix n) (drop-drop c span.start b) p) in
+        let p₃ : Prefix n (drop (off + (span.start + c)) s) = subst (Prefix n) (drop-drop (span.start + c) off s) (prefix_in n (span.start + c) len (drop off s) p₂) in
+        let z : off + (span.start + c) ≡ body_start (nth_in k j off (records b)) + c = omega (arith, w) in
         subst (λ (x : ℕ). Prefix n (drop x s)) z p₃
 
 pub name-prefix : (b : List ℕ) → Prefix (name_of b) (drop 1 b)
@@ -135,7 +132,7 @@ requirement-at : (b : List ℕ) (j : ℕ) → (get_or (descriptor_of b).requires
 unfolding descriptor_of requirement_of
 requirement-at b j = ap (λ (r : Requirement). r.name) (get_or-map requirement_of (bodies Kind.Requires b) j [])
 
-pub required-bytes : (s : List ℕ) (m : ℕ) (t : List ℕ) → GoodSet s m t → (check_set s).starts ≡ t → (p j : ℕ) (n : Name) → p < length (modules s)
+pub required-bytes : (s : List ℕ) (m : ℕ) (t : List ℕ) → GoodSet s m t → (starts_in (check_set s)) ≡ t → (p j : ℕ) (n : Name) → p < length (modules s)
     → (get_or (module_at (modules s) p).requires j (requirement_of [])).name ≡ n
     → take (length n) (drop (body_start (nth_in Kind.Requires j (start_in s p) (records_at s p)) + 3) s) ≡ n
 unfolding start_in records_at
@@ -145,7 +142,7 @@ required-bytes s m t g et p j n l e =
     let x : List ℕ = get_or (bodies Kind.Requires b) j [] in
     let z : name_of (drop 2 x) ≡ n = sym (requirement-at b j) ∙ ap (λ (d : Descriptor). (get_or d.requires j (requirement_of [])).name) (sym (module_block s m t g p (omega (arith, set-length s m t g)))) ∙ e in
     let w : Prefix n (drop 3 x) = subst (λ (y : List ℕ). Prefix y (drop 3 x)) z (subst (Prefix (name_of (drop 2 x))) (drop-drop 1 2 x) (name-prefix (drop 2 x))) in
-    prefix-bytes n (drop (body_start (nth_in Kind.Requires j (get_or (check_set s).starts p 0) (records (block_at s (check_set s).starts p))) + 3) s)
+    prefix-bytes n (drop (body_start (nth_in Kind.Requires j (get_or (starts_in (check_set s)) p 0) (records (block_at s (starts_in (check_set s)) p))) + 3) s)
     (subst (λ (y : List ℕ). Prefix n (drop (body_start (nth_in Kind.Requires j (get_or y p 0) (records (block_at s y p))) + 3) s)) (sym et)
     (body-part Kind.Requires j s b (get_or t p 0) (get_or t (p + 1) 0 - get_or t p 0) at n 3 w))
 
@@ -156,24 +153,24 @@ pub record AbsentName (s q ws : List ℕ) (n : Name) (p : QueuedBy) : Type 0 whe
   -- it is the name in an RT of the request or in an RQ of the set, and no module of the set has it
   pub caused : AbsentBy (modules s) (request_of q) Whatever n p
 
-outcome-is : (s q ws : List ℕ) (k : ℕ) (n : Name) (p : QueuedBy) → (check_inputs s q).answer ≡ Modules k → word_count ≤ length ws → Resolution.resolve (modules s) (request_of q) ≡ failed (module_not_found n p)
-    → (resolve s q ws).outcome ≡ Refused (absent_of s q (length n) p)
+outcome-is : (s q ws : List ℕ) (k : ℕ) (n : Name) (p : QueuedBy) → count_of (check_inputs s q) ≡ Ok k → word_count ≤ length ws → Resolution.resolve (modules s) (request_of q) ≡ failed (module_not_found n p)
+    → (resolve s q ws).outcome ≡ Err (absent_of s q (length n) p)
 unfolding resolve answered told refused error_of
 outcome-is s q ws k n p h l e =
-    ap (λ (a : SetAnswer). (answered s q ws a).outcome) (with_enough ws (check_inputs s q).answer k h l) ∙ ap (λ (r : Result State Refusal). (told s q ws r).outcome) e
+    ap (λ (a : CountAnswer). (answered s q ws a).outcome) (with_enough ws (count_of (check_inputs s q)) k h l) ∙ ap (λ (r : Result State Refusal). (told s q ws r).outcome) e
 
-pub absent-name-is : (s q ws : List ℕ) (k : ℕ) (n : Name) (p : QueuedBy) → (check_inputs s q).answer ≡ Modules k → word_count ≤ length ws
+pub absent-name-is : (s q ws : List ℕ) (k : ℕ) (n : Name) (p : QueuedBy) → count_of (check_inputs s q) ≡ Ok k → word_count ≤ length ws
     → Resolution.resolve (modules s) (request_of q) ≡ failed (module_not_found n p) → AbsentName s q ws n p
 absent-name-is s q ws k n p h l e = turned p (refusal-caused (modules s) (request_of q) Whatever (trivial (modules s) (request_of q)) (module_not_found n p) e) (ap (absent_name s q) (outcome-is s q ws k n p h l e))
   where
-    c : check_set s ≡ record { answer = Modules k; starts = (check_inputs s q).starts }
+    c : check_set s ≡ Ok (record { count = k; starts = (starts_in (check_inputs s q)) })
     c = inputs-taken s q k (check_inputs s q) refl h
 
-    turned : (o : QueuedBy) → AbsentBy (modules s) (request_of q) Whatever n o → absent_name s q (resolve s q ws).outcome ≡ absent_name s q (Refused (absent_of s q (length n) o)) → AbsentName s q ws n o
+    turned : (o : QueuedBy) → AbsentBy (modules s) (request_of q) Whatever n o → absent_name s q (resolve s q ws).outcome ≡ absent_name s q (Err (absent_of s q (length n) o)) → AbsentName s q ws n o
     turned base w z = absurd w.stands
     turned (provider i) w z = true≠false w.stands w.absent
     turned (root i) w z = record { bytes = z ∙ (unfold absent_name absent_in part_of absent_of in root-bytes q i n w.stands.1); caused = w }
     turned (required m j) w z = record {
-      bytes = z ∙ (unfold absent_name absent_in part_of absent_of in required-bytes s k (check_inputs s q).starts (good-set s k (check_inputs s q).starts c) (ap (λ (x : Checked). x.starts) c) m j n (visible_in (modules s) m w.stands.visible) w.stands.name);
+      bytes = z ∙ (unfold absent_name absent_in part_of absent_of in required-bytes s k (starts_in (check_inputs s q)) (good-set s k (starts_in (check_inputs s q)) c) (ap starts_in c) m j n (visible_in (modules s) m w.stands.visible) w.stands.name);
       caused = w;
     }

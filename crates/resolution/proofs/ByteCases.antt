@@ -10,9 +10,8 @@ use Rattle.records.specs.Name.{printable, name_of, after_name, is_field, is_name
 use Rattle.records.specs.Record.{mark_of, size_of, body_of, record_more, whole, records_from, records, mark_for, set_kind, request_kind, kind_in, is_module, is_requires, is_body, is_of, bodies_in, bodies, nth_in}
 use Rattle.records.specs.Descriptor.{Descriptor, has_flag, requirement_of, entry_of, module_name, header_of, descriptor_of}
 use Rattle.records.specs.Request.{same_kind, row_of, row_on, check_records_from, check_records, then_request, check_inputs, read_of, grant_of, limit_of, request_of, has_any}
-use Rattle.records.specs.Set.{body_at, name_at, is_placed, admit_at, pass_at, judge_at, table_of, accepted, refused as refused_set, go_on, check_from, check_set, up_to_next, blocks_of, blocks, modules}
-use Rattle.records.specs.declared.set.SetAnswer.{SetAnswer}
-use Rattle.records.specs.declared.set.SetAnswer.TheVariants as Set
+use Rattle.records.specs.Set.{body_at, name_at, is_placed, admit_at, pass_at, judge_at, table_of, accepted, go_on, check_from, check_set, up_to_next, blocks_of, blocks, modules, count_of}
+use Rattle.records.specs.Set.{CountAnswer}
 use Rattle.records.specs.declared.error.Input.TheVariants as Input
 use Rattle.records.specs.declared.error.ModuleError.TheVariants.{ModuleNotFound, JavaBaseNotFound}
 use Rattle.records.specs.Request.{Request}
@@ -22,21 +21,21 @@ use Rattle.resolution.specs.Loop.{Result, failed, done}
 use Rattle.resolution.specs.Resolution.{State, Refusal, root, module_not_found, java_base_not_found}
 use Rattle.resolution.specs.Resolution as Resolution
 use Rattle.resolution.specs.Resolve.{body_start, absent_of, error_of, refused, told, answered, resolve}
-use Rattle.resolution.specs.declared.resolve.Outcome.TheVariants.{Accepted}
 use Rattle.resolution.specs.Resolve as Resolve
 use Rattle.resolution.specs.Configuration.{word_count}
 use Rattle.resolution.proofs.ConfigurationWords.{with_enough}
 use Rattle.resolution.proofs.Cases.{case1_modules, case1_reads, case1_owners, case2, case3, case4, case5, case10, case10_modules}
 use Rattle.resolution.specs.Cases.{members_of, reads_of, owners_of, module_of, requirement, request, a, b, java_lang, base_module, cycle, pages, page_core, page_foot, page_frames, reader, foot_package, frame_package, base_set, listing_set, cycle_set, listing_request, root_a, root_a_nothing_permitted}
+use Rattle.std.specs.Prelude.{Ok}
 
 -- one line opens all that decoding and the checks use
 decode : List ℕ → List Descriptor
 unfolding modules blocks blocks_of up_to_next is_of mark_for descriptor_of header_of bodies bodies_in module_name has_flag requirement_of entry_of names_of list_of limit_of read_of grant_of has_any request_of after_name name_of records records_from whole record_more body_of size_of mark_of u16_at base_set listing_set cycle_set listing_request root_a root_a_nothing_permitted module_of requirement request a b java_lang base_module cycle pages page_core page_foot page_frames reader foot_package frame_package
 decode s = modules s
 
-check : List ℕ → List ℕ → SetAnswer
-unfolding check_inputs then_request check_records check_records_from row_on row_of same_kind mark_for kind_in request_kind check_set check_from go_on judge_at pass_at admit_at is_placed accepted refused_set table_of name_at body_at module_name mem_name is_body is_module is_requires is_name_list is_name_version is_version is_list is_names is_name is_field is_empty after_name name_of printable set_kind records records_from whole record_more body_of size_of mark_of u16_at same_bytes base_set listing_set cycle_set listing_request root_a root_a_nothing_permitted
-check s q = (check_inputs s q).answer
+check : List ℕ → List ℕ → CountAnswer
+unfolding check_inputs then_request check_records check_records_from row_on row_of same_kind mark_for kind_in request_kind check_set check_from go_on judge_at pass_at admit_at is_placed accepted table_of name_at body_at module_name mem_name is_body is_module is_requires is_name_list is_name_version is_version is_list is_names is_name is_field is_empty after_name name_of printable set_kind records records_from whole record_more body_of size_of mark_of u16_at same_bytes base_set listing_set cycle_set listing_request root_a root_a_nothing_permitted
+check s q = (count_of (check_inputs s q))
 
 listing-modules : modules listing_set ≡ pages
 unfolding decode
@@ -72,23 +71,23 @@ abbrev resolved : List ℕ → List ℕ → Result State Refusal
 resolved s q = Resolution.resolve (modules s) (request_of q)
 
 -- the set and the request are taken, and this is what their resolution gives
-accepts : (s q : List ℕ) (n : ℕ) (z : Result State Refusal) → (check_inputs s q).answer ≡ Set.Modules n → resolved s q ≡ z → (ws : List ℕ) → word_count ≤ length ws → resolve s q ws ≡ told s q ws z
+accepts : (s q : List ℕ) (n : ℕ) (z : Result State Refusal) → count_of (check_inputs s q) ≡ Ok n → resolved s q ≡ z → (ws : List ℕ) → word_count ≤ length ws → resolve s q ws ≡ told s q ws z
 unfolding resolve answered
-accepts s q n z e h ws l = ap (answered s q ws) (with_enough ws (check_inputs s q).answer n e l) ∙ ap (told s q ws) h
+accepts s q n z e h ws l = ap (answered s q ws) (with_enough ws (count_of (check_inputs s q)) n e l) ∙ ap (told s q ws) h
 
 -- (1) the listing: accepted; its modules, their reads, the owners
 pub record Listing (s q : List ℕ) : Type 0 where
-  pub outcome : (ws : List ℕ) → word_count ≤ length ws → (resolve s q ws).outcome ≡ Accepted
+  pub outcome : (ws : List ℕ) → word_count ≤ length ws → (resolve s q ws).outcome ≡ Ok tt
   pub modules_are : members_of (resolved s q) ≡ java_base ∷ page_core ∷ page_foot ∷ page_frames ∷ []
   pub reads_are : reads_of (request_of q) (resolved s q)
       ≡ (java_base, []) ∷ (page_core, java_base ∷ page_frames ∷ []) ∷ (page_foot, java_base ∷ page_frames ∷ []) ∷ (page_frames, java_base ∷ []) ∷ []
   pub owners_are : owners_of (resolved s q) ≡ (java_lang, some java_base) ∷ (foot_package, some page_foot) ∷ (frame_package, some page_frames) ∷ []
 
-outcome-of : (s q : List ℕ) (n : ℕ) (m : List Name) (x : Name) → (check_inputs s q).answer ≡ Set.Modules n → members_of (resolved s q) ≡ x ∷ m → (ws : List ℕ) → word_count ≤ length ws → (resolve s q ws).outcome ≡ Accepted
+outcome-of : (s q : List ℕ) (n : ℕ) (m : List Name) (x : Name) → count_of (check_inputs s q) ≡ Ok n → members_of (resolved s q) ≡ x ∷ m → (ws : List ℕ) → word_count ≤ length ws → (resolve s q ws).outcome ≡ Ok tt
 unfolding told members_of
 outcome-of s q n m x e h ws l = turned (resolved s q) refl h
   where
-    turned : (z : Result State Refusal) → resolved s q ≡ z → members_of z ≡ x ∷ m → (resolve s q ws).outcome ≡ Accepted
+    turned : (z : Result State Refusal) → resolved s q ≡ z → members_of z ≡ x ∷ m → (resolve s q ws).outcome ≡ Ok tt
     turned (failed r) k j = clash (cc)
     turned (done st) k j = ap (λ (u : Resolve.ResolveResult). u.outcome) (accepts s q n (done st) e k ws l)
 
@@ -103,7 +102,7 @@ byte_case1 = record {
   owners_are = ap owners_of listing-resolved ∙ case1_owners;
 }
   where
-    taken : (check_inputs listing_set listing_request).answer ≡ Set.Modules 4
+    taken : count_of (check_inputs listing_set listing_request) ≡ Ok 4
     taken = unfold check in refl
 
     members : members_of (resolved listing_set listing_request) ≡ java_base ∷ page_core ∷ page_foot ∷ page_frames ∷ []
@@ -113,7 +112,7 @@ byte_case1 = record {
 pub byte_case2 : (ws : List ℕ) → word_count ≤ length ws → resolve [] [] ws ≡ refused JavaBaseNotFound ws
 byte_case2 ws l = accepts [] [] 0 (failed java_base_not_found) taken (ap (λ (m : List Descriptor). Resolution.resolve m (request_of [])) none-there ∙ ap (Resolution.resolve []) empty-request ∙ case2) ws l ∙ told_is
   where
-    taken : (check_inputs [] []).answer ≡ Set.Modules 0
+    taken : count_of (check_inputs [] []) ≡ Ok 0
     taken = unfold check in refl
 
     none-there : modules [] ≡ []
@@ -127,14 +126,14 @@ base-resolved : (q : List ℕ) (rq : Request) → request_of q ≡ rq → resolv
 base-resolved q rq e = ap (λ (m : List Descriptor). Resolution.resolve m (request_of q)) base-modules ∙ ap (Resolution.resolve (base_module ∷ [])) e
 
 pub record OneModule (s q : List ℕ) : Type 0 where
-  pub outcome : (ws : List ℕ) → word_count ≤ length ws → (resolve s q ws).outcome ≡ Accepted
+  pub outcome : (ws : List ℕ) → word_count ≤ length ws → (resolve s q ws).outcome ≡ Ok tt
   pub modules_are : members_of (resolved s q) ≡ java_base ∷ []
 
 -- (3) java.base alone, no root: one module
 pub byte_case3 : OneModule base_set []
 byte_case3 = record { outcome = outcome-of base_set [] 1 [] java_base taken members; modules_are = members }
   where
-    taken : (check_inputs base_set []).answer ≡ Set.Modules 1
+    taken : count_of (check_inputs base_set []) ≡ Ok 1
     taken = unfold check in refl
 
     members : members_of (resolved base_set []) ≡ java_base ∷ []
@@ -144,7 +143,7 @@ byte_case3 = record { outcome = outcome-of base_set [] 1 [] java_base taken memb
 pub byte_case4 : (ws : List ℕ) → word_count ≤ length ws → resolve base_set root_a ws ≡ refused (ModuleNotFound Input.Request 5 1) ws
 byte_case4 ws l = accepts base_set root_a 1 (failed (module_not_found a (root 0))) taken (base-resolved root_a (request (a ∷ []) none) root-request ∙ case4) ws l ∙ told_is
   where
-    taken : (check_inputs base_set root_a).answer ≡ Set.Modules 1
+    taken : count_of (check_inputs base_set root_a) ≡ Ok 1
     taken = unfold check in refl
 
     told_is : told base_set root_a ws (failed (module_not_found a (root 0))) ≡ refused (ModuleNotFound Input.Request 5 1) ws
@@ -154,7 +153,7 @@ byte_case4 ws l = accepts base_set root_a 1 (failed (module_not_found a (root 0)
 pub byte_case5 : OneModule base_set root_a_nothing_permitted
 byte_case5 = record { outcome = outcome-of base_set root_a_nothing_permitted 1 [] java_base taken members; modules_are = members }
   where
-    taken : (check_inputs base_set root_a_nothing_permitted).answer ≡ Set.Modules 1
+    taken : count_of (check_inputs base_set root_a_nothing_permitted) ≡ Ok 1
     taken = unfold check in refl
 
     members : members_of (resolved base_set root_a_nothing_permitted) ≡ java_base ∷ []
@@ -162,7 +161,7 @@ byte_case5 = record { outcome = outcome-of base_set root_a_nothing_permitted 1 [
 
 -- (10) java.base, root a, a and b requiring each other transitively: both read themselves
 pub record Cycle (s q : List ℕ) : Type 0 where
-  pub outcome : (ws : List ℕ) → word_count ≤ length ws → (resolve s q ws).outcome ≡ Accepted
+  pub outcome : (ws : List ℕ) → word_count ≤ length ws → (resolve s q ws).outcome ≡ Ok tt
   pub reads_are : reads_of (request_of q) (resolved s q) ≡ (a, a ∷ b ∷ java_base ∷ []) ∷ (b, a ∷ b ∷ java_base ∷ []) ∷ (java_base, []) ∷ []
 
 cycle-resolved : resolved cycle_set root_a ≡ Resolution.resolve cycle (request (a ∷ []) none)
@@ -174,5 +173,5 @@ byte_case10 = record {
   reads_are = ap (λ (r : Request). reads_of r (resolved cycle_set root_a)) root-request ∙ ap (reads_of (request (a ∷ []) none)) cycle-resolved ∙ case10;
 }
   where
-    taken : (check_inputs cycle_set root_a).answer ≡ Set.Modules 3
+    taken : count_of (check_inputs cycle_set root_a) ≡ Ok 3
     taken = unfold check in refl

@@ -15,15 +15,13 @@ use Rattle.records.specs.Name.{mem_name, name_of}
 use Rattle.records.specs.Record.{records, bodies, bodies_in, body_of, is_of, nth_in, first_in, begins}
 use Rattle.records.specs.Descriptor.{Descriptor, descriptor_of, requirement_of}
 use Rattle.records.specs.Request.{request_of, is_permitted, check_inputs}
-use Rattle.records.specs.Set.{block_at, modules, check_set}
+use Rattle.records.specs.Set.{block_at, modules, check_set, count_of, starts_in}
 use Rattle.records.specs.declared.error.Input.TheVariants as Input
 use Rattle.records.specs.declared.error.ModuleError.TheVariants.{OutputTooShort}
 use Rattle.records.specs.declared.error.ModuleError.{ModuleError}
-use Rattle.records.specs.declared.record.Next.{Next}
+use Rattle.records.specs.Record.{Next}
 use Rattle.records.specs.declared.record.Kind.{Kind}
-use Rattle.records.specs.declared.set.Checked.{Checked}
-use Rattle.records.specs.declared.set.SetAnswer.{SetAnswer}
-use Rattle.records.specs.declared.set.SetAnswer.TheVariants as Set
+use Rattle.records.specs.Set.{CountAnswer}
 use Rattle.records.proofs.Logic.{clash, true≠false, or_cases}
 use Rattle.records.proofs.bytes.Laws.{same-eq}
 use Rattle.records.proofs.request.Taken.{inputs-taken}
@@ -37,9 +35,8 @@ use Rattle.resolution.specs.Closed.{Closed}
 use Rattle.resolution.specs.Positions.{module_at}
 use Rattle.resolution.specs.Resolution.{Refusal, State, QueuedBy, base, root, required, provider, find, index_of, module_not_found, java_base_not_found, split_package, ran_out, has_module}
 use Rattle.resolution.specs.Resolution as Resolution
-use Rattle.resolution.specs.Resolve.{body_start, start_in, records_at, absent_of, split_of, error_of, refused, told, answered, resolve}
+use Rattle.resolution.specs.Resolve.{body_start, start_in, records_at, absent_of, split_of, error_of, refused, told, answered, resolve, Outcome}
 use Rattle.resolution.specs.Configuration.{word_count, pick_answer, with_words}
-use Rattle.resolution.specs.declared.resolve.Outcome.TheVariants.{Refused}
 use Rattle.resolution.proofs.Absence.{Prefix, prefix-bytes, body-part, name-prefix, root-bytes, required-bytes}
 use Rattle.resolution.proofs.Find.{find-mem, has-find}
 use Rattle.resolution.proofs.Fuel.{never-out}
@@ -49,6 +46,7 @@ use Rattle.resolution.proofs.Lists.{mem_name_in}
 use Rattle.resolution.proofs.Positions.{find_at, index_in, index-visible, visible_in}
 use Rattle.resolution.proofs.Refusals.{AbsentBy, SharedBy, Caused, refusal-caused}
 use Rattle.resolution.proofs.Sets.{set-length, module_block}
+use Rattle.std.specs.Prelude.{Ok, Err}
 
 -- ---- the package of refusal 7
 
@@ -97,7 +95,7 @@ package_name : (b : List ℕ) (p : Name) (n : Nth Kind.Package p (records b)) �
 unfolding bodies
 package_name b p n = n.name
 
-module _ (s : List ℕ) (m : ℕ) (t : List ℕ) (g : GoodSet s m t) (et : (check_set s).starts ≡ t) where
+module _ (s : List ℕ) (m : ℕ) (t : List ℕ) (g : GoodSet s m t) (et : (starts_in (check_set s)) ≡ t) where
   -- the bytes told are the package
   package_bytes : (i : ℕ) (p : Name) → i < length (modules s) → mem_name p (module_at (modules s) i).packages ≡ true
       → take (length p) (drop (body_start (first_in Kind.Package (p ∷ []) (start_in s i) (records_at s i)) + 1) s) ≡ p
@@ -111,7 +109,7 @@ module _ (s : List ℕ) (m : ℕ) (t : List ℕ) (g : GoodSet s m t) (et : (chec
       let z : Prefix p (drop 1 x) = subst (λ (y : Name). Prefix y (drop 1 x)) (package_name b p n) (name-prefix x) in
       let w : Prefix p (drop (body_start (nth_in Kind.Package n.index (get_or t i 0) (records b)) + 1) s) = body-part Kind.Package n.index s b (get_or t i 0) (get_or t (i + 1) 0 - get_or t i 0) at p 1 z in
       let v : Prefix p (drop (body_start (first_in Kind.Package (p ∷ []) (get_or t i 0) (records b)) + 1) s) = subst (λ (y : Next). Prefix p (drop (body_start y + 1) s)) (sym (n.is (get_or t i 0))) w in
-      prefix-bytes p (drop (body_start (first_in Kind.Package (p ∷ []) (get_or (check_set s).starts i 0) (records (block_at s (check_set s).starts i))) + 1) s)
+      prefix-bytes p (drop (body_start (first_in Kind.Package (p ∷ []) (get_or (starts_in (check_set s)) i 0) (records (block_at s (starts_in (check_set s)) i))) + 1) s)
       (subst (λ (y : List ℕ). Prefix p (drop (body_start (first_in Kind.Package (p ∷ []) (get_or y i 0) (records (block_at s y i))) + 1) s)) (sym et) v)
 
 -- ---- each refusal by names, with its particulars
@@ -121,18 +119,18 @@ mem-at [] i a h = absurd (omega arith)
 mem-at (x ∷ l) zero a h = Memᴰ.head refl
 mem-at (x ∷ l) (suc i) a h = Memᴰ.tail (mem-at l i a (omega arith))
 
-module _ (s q : List ℕ) (k : ℕ) (h : (check_inputs s q).answer ≡ Set.Modules k) where
+module _ (s q : List ℕ) (k : ℕ) (h : count_of (check_inputs s q) ≡ Ok k) where
   abbrev t : List ℕ
-  t = (check_inputs s q).starts
+  t = (starts_in (check_inputs s q))
 
-  e : check_set s ≡ record { answer = Set.Modules k; starts = t }
+  e : check_set s ≡ Ok (record { count = k; starts = t })
   e = inputs-taken s q k (check_inputs s q) refl h
 
   g : GoodSet s k t
   g = good-set s k t e
 
-  et : (check_set s).starts ≡ t
-  et = ap (λ (x : Checked). x.starts) e
+  et : (starts_in (check_set s)) ≡ t
+  et = ap starts_in e
 
   both : Taken s q
   both = record { modules = k; is = h }
@@ -222,27 +220,27 @@ module _ (s q : List ℕ) (k : ℕ) (h : (check_inputs s q).answer ≡ Set.Modul
 -- ---- the whole
 
 -- what a refusal of `resolve` says is true
-pub cause_true : (s q ws : List ℕ) (e : ModuleError) → (resolve s q ws).outcome ≡ Refused e → Cause s q ws e
+pub cause_true : (s q ws : List ℕ) (e : ModuleError) → (resolve s q ws).outcome ≡ Err e → Cause s q ws e
 unfolding resolve told refused answered with_words
-cause_true s q ws e h = turned (check_inputs s q).answer refl h
+cause_true s q ws e h = turned (count_of (check_inputs s q)) refl h
   where
-    same : (x : ModuleError) → Refused x ≡ Refused e → x ≡ e
+    same : (x : ModuleError) → ◌≡◌ {A = Outcome} (Err x) (Err e) → x ≡ e
     same x k = cc
 
-    ended : (k : ℕ) → (check_inputs s q).answer ≡ Set.Modules k → (r : Result State Refusal) → Resolution.resolve (modules s) (request_of q) ≡ r
-        → (told s q ws r).outcome ≡ Refused e → Cause s q ws e
+    ended : (k : ℕ) → count_of (check_inputs s q) ≡ Ok k → (r : Result State Refusal) → Resolution.resolve (modules s) (request_of q) ≡ r
+        → (told s q ws r).outcome ≡ Err e → Cause s q ws e
     ended k c (failed r) f w =
         subst (Cause s q ws) (same (error_of s q r) w)
         (error_cause s q k c r (λ o. never-out (modules s) (request_of q) (f ∙ ap failed o)) (λ C d. refusal-caused (modules s) (request_of q) C d r f) ws)
     ended k c (done st) f w = absurd (clash (cc))
 
-    fits : (k : ℕ) → (check_inputs s q).answer ≡ Set.Modules k → (b : Bool) → ltb (length ws) word_count ≡ b
-        → (answered s q ws (pick_answer b (Set.Refused (OutputTooShort word_count)) (Set.Modules k))).outcome ≡ Refused e → Cause s q ws e
+    fits : (k : ℕ) → count_of (check_inputs s q) ≡ Ok k → (b : Bool) → ltb (length ws) word_count ≡ b
+        → (answered s q ws (pick_answer b (Err (OutputTooShort word_count)) (Ok k))).outcome ≡ Err e → Cause s q ws e
     fits k c true l w = subst (Cause s q ws) (same (OutputTooShort word_count) w) (is-short record { taken = record { modules = k; is = c }; short = ltb-true (length ws) word_count l })
     fits k c false l w = ended k c (Resolution.resolve (modules s) (request_of q)) refl w
 
-    turned : (a : SetAnswer) → (check_inputs s q).answer ≡ a → (answered s q ws (with_words ws a)).outcome ≡ Refused e → Cause s q ws e
-    turned (Set.Refused x) c w =
+    turned : (a : CountAnswer) → count_of (check_inputs s q) ≡ a → (answered s q ws (with_words ws a)).outcome ≡ Err e → Cause s q ws e
+    turned (Err x) c w =
         let y : x ≡ e = same x w in
         subst (Cause s q ws) y (is-checked x (check-number s q x c) c)
-    turned (Set.Modules k) c w = fits k c (ltb (length ws) word_count) refl w
+    turned (Ok k) c w = fits k c (ltb (length ws) word_count) refl w

@@ -13,8 +13,7 @@ use borrow.Rule.Slice.PartMut.{put_mid}
 use Rattle.records.specs.Output.{written}
 use Rattle.records.specs.declared.error.ModuleError.{ModuleError}
 use Rattle.records.specs.declared.error.ModuleError.TheVariants.{OutputTooShort}
-use Rattle.records.specs.declared.set.SetAnswer.{SetAnswer}
-use Rattle.records.specs.declared.set.SetAnswer.TheVariants as Set
+use Rattle.records.specs.Set.{CountAnswer}
 use Rattle.records.proofs.Logic.{by, clash}
 use Rattle.resolution.specs.Row.{bit, holds, one, words}
 use Rattle.resolution.specs.Graph.{edge, ninth, unnamed_edge}
@@ -24,6 +23,7 @@ use Rattle.resolution.proofs.Words.{words_are}
 use Rattle.resolution.proofs.configuration.Laws.{take_past, member-none, edge_none, unnamed-none}
 use Rattle.resolution.proofs.graph.Edges.{edge-is, edge-past}
 use Rattle.resolution.proofs.row.Bits.{bit-low, bit-zero}
+use Rattle.std.specs.Prelude.{Ok, Err}
 
 module _ (e : ℕ → ℕ → Bool) (u : ℕ → Bool) where
   -- ---- the rows made of tests
@@ -109,24 +109,24 @@ module _ (e : ℕ → ℕ → Bool) (u : ℕ → Bool) where
 
 -- ---- the number of words, after the check of the inputs
 
-pub with-refused : (ws : List ℕ) (a : SetAnswer) (e : ModuleError) → a ≡ Set.Refused e → with_words ws a ≡ Set.Refused e
+pub with-refused : (ws : List ℕ) (a : CountAnswer) (e : ModuleError) → a ≡ Err e → with_words ws a ≡ Err e
 unfolding with_words
 with-refused ws a e h = ap (with_words ws) h
 
-pub with-few : (ws : List ℕ) (a : SetAnswer) (n : ℕ) → a ≡ Set.Modules n → length ws < 4616 → with_words ws a ≡ Set.Refused (OutputTooShort 4616)
+pub with-few : (ws : List ℕ) (a : CountAnswer) (n : ℕ) → a ≡ Ok n → length ws < 4616 → with_words ws a ≡ Err (OutputTooShort 4616)
 unfolding with_words
 with-few ws a n h l = ap (with_words ws) h ∙ rw (lt-ltb (length ws) 4616 l)
 
-pub with_enough : (ws : List ℕ) (a : SetAnswer) (n : ℕ) → a ≡ Set.Modules n → 4616 ≤ length ws → with_words ws a ≡ Set.Modules n
+pub with_enough : (ws : List ℕ) (a : CountAnswer) (n : ℕ) → a ≡ Ok n → 4616 ≤ length ws → with_words ws a ≡ Ok n
 unfolding with_words
 with_enough ws a n h l = ap (with_words ws) h ∙ rw (le-ltb (length ws) 4616 l)
 
 -- what was taken with the words was taken without, and they are enough
-pub with-taken : (ws : List ℕ) (a : SetAnswer) (n : ℕ) → with_words ws a ≡ Set.Modules n → (a ≡ Set.Modules n) × (word_count ≤ length ws)
+pub with-taken : (ws : List ℕ) (a : CountAnswer) (n : ℕ) → with_words ws a ≡ Ok n → (a ≡ Ok n) × (word_count ≤ length ws)
 unfolding with_words
-with-taken ws (Set.Refused e) n h = clash (cc)
-with-taken ws (Set.Modules m) n h = by (ltb (length ws) word_count)
-    (λ q. let z : Set.Refused (OutputTooShort word_count) ≡ Set.Modules n = sym (rw q) ∙ h in clash (cc))
+with-taken ws (Err e) n h = clash (cc)
+with-taken ws (Ok m) n h = by (ltb (length ws) word_count)
+    (λ q. let z : Err (OutputTooShort word_count) ≡ Ok n = sym (rw q) ∙ h in clash (cc))
     (λ q. (sym (rw q) ∙ h, ltb-false (length ws) word_count q))
 
 -- a word that is 0 or 1 is that of its lowest bit

@@ -10,7 +10,6 @@ use borrow.Author.Tests.{eqb-true, ne_eqb}
 use Rattle.records.specs.Descriptor.{Descriptor}
 use Rattle.records.specs.Request.{request_of, is_permitted}
 use Rattle.records.specs.Set.{modules, check_set}
-use Rattle.records.specs.declared.set.SetAnswer.TheVariants.{Modules}
 use Rattle.records.proofs.set.Blocks.{GoodSet, good-set}
 use Rattle.records.proofs.Logic.{by, true≠false}
 use Rattle.resolution.specs.Lists.{Mem, any}
@@ -28,6 +27,7 @@ use Rattle.resolution.proofs.Sets.{set-length}
 use Rattle.resolution.proofs.ConfigurationWords.{members_are}
 use Rattle.resolution.proofs.WordBits.{holds-words}
 use Rattle.resolution.proofs.row.Counts.{count_none, count_same, count_suc, count-zero, one-le}
+use Rattle.std.specs.Prelude.{Ok}
 
 -- ---- how many positions are in a list
 
@@ -81,7 +81,7 @@ module _ (s : List Descriptor) (ps : List ℕ) (within : (p : ℕ) → Mem p ps 
 -- ---- the whole
 
 -- the number of ones in the member words is the number of modules resolved
-pub count-resolved : (s q : List ℕ) (n : ℕ) (t : List ℕ) → check_set s ≡ record { answer = Modules n; starts = t }
+pub count-resolved : (s q : List ℕ) (n : ℕ) (t : List ℕ) → check_set s ≡ Ok (record { count = n; starts = t })
     → (st : State) → resolve (modules s) (request_of q) ≡ done st → (rest : List ℕ)
     → size (member_words (configuration_of (modules s) (request_of q) st.resolved ++ rest)) ≡ length st.resolved
 unfolding configuration_of

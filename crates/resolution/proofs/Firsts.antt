@@ -9,14 +9,14 @@ use Rattle.records.specs.Bytes.{same_bytes}
 use Rattle.records.specs.Name.{mem_name}
 use Rattle.records.specs.Descriptor.{Descriptor}
 use Rattle.records.specs.Finder.{find_name, pick_found, is_at, is_first, found_from}
-use Rattle.records.specs.declared.finder.Found.{Found}
-use Rattle.records.specs.declared.finder.Found.TheVariants.{At}
+use Rattle.records.specs.Finder.{Found}
 use Rattle.records.proofs.finder.Modules.{at-is}
 use Rattle.records.proofs.Logic.{by, true≠false, neither_left, neither_right}
 use Rattle.resolution.specs.Lists.{Name}
 use Rattle.resolution.specs.Resolution.{names, observable}
 use Rattle.resolution.proofs.Enqueue.{met-cases, met-new, met-old}
 use Rattle.resolution.proofs.Lists.{→same}
+use Rattle.std.specs.Prelude.{Some}
 
 -- those whose name is not among these and that no module before them has
 unfoldable pub firsts : List Name → List Descriptor → List Descriptor
@@ -27,13 +27,13 @@ firsts before (m ∷ ms) = cond (mem_name m.name before) (firsts (m.name ∷ bef
 
 -- of the names l, those before position k are these, and those from k on are the names of ds
 record Split (l : List Name) (before : List Name) (k : ℕ) (ds : List Descriptor) : Type 0 where
-  old : (n : Name) → mem_name n before ≡ true → (i : ℕ) × (find_name l n 0 ≡ At i) × (i < k)
+  old : (n : Name) → mem_name n before ≡ true → (i : ℕ) × (find_name l n 0 ≡ Some i) × (i < k)
   new : (n : Name) → mem_name n before ≡ false → find_name l n 0 ≡ find_name (names ds) n k
 
 module _ (l : List Name) (before : List Name) (k : ℕ) (m : Descriptor) (ds : List Descriptor) (w : Split l before k (m ∷ ds)) where
   -- the module at k
-  here : (n : Name) → n ≡ m.name → mem_name n before ≡ false → find_name l n 0 ≡ At k
-  here n c f = w.new n f ∙ unfold find_name in ap (λ (b : Bool). pick_found b (At k) (find_name (names ds) n (suc k))) (→same c)
+  here : (n : Name) → n ≡ m.name → mem_name n before ≡ false → find_name l n 0 ≡ Some k
+  here n c f = w.new n f ∙ unfold find_name in ap (λ (b : Bool). pick_found b (Some k) (find_name (names ds) n (suc k))) (→same c)
 
   is-new : mem_name m.name before ≡ false → is_first l m.name k ≡ true
   unfolding is_first
@@ -52,7 +52,7 @@ module _ (l : List Name) (before : List Name) (k : ℕ) (m : Descriptor) (ds : L
   }
     where
       later : (n : Name) → same_bytes m.name n ≡ false → mem_name n before ≡ false → find_name l n 0 ≡ find_name (names ds) n (suc k)
-      later n e f = w.new n f ∙ unfold find_name in ap (λ (b : Bool). pick_found b (At k) (find_name (names ds) n (suc k))) e
+      later n e f = w.new n f ∙ unfold find_name in ap (λ (b : Bool). pick_found b (Some k) (find_name (names ds) n (suc k))) e
 
 found-firsts : (l : List Name) (before : List Name) (k : ℕ) (ds : List Descriptor) → Split l before k ds
     → found_from (λ (x : Descriptor). x.name) l k ds ≡ firsts before ds

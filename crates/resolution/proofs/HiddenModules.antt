@@ -6,9 +6,8 @@ use Prim.Native.Nat.{ℕ}
 use lib.ListN.{drop}
 use Rattle.records.specs.Descriptor.{Descriptor}
 use Rattle.records.specs.Request.{Request, request_of, check_inputs}
-use Rattle.records.specs.Set.{modules}
-use Rattle.records.specs.declared.set.SetAnswer.{SetAnswer}
-use Rattle.records.specs.declared.set.SetAnswer.TheVariants as Set
+use Rattle.records.specs.Set.{modules, count_of}
+use Rattle.records.specs.Set.{CountAnswer}
 use Rattle.records.proofs.Logic.{clash}
 use Rattle.resolution.specs.Configuration.{word_count, with_words}
 use Rattle.resolution.specs.Hidden.{AllZero}
@@ -17,8 +16,8 @@ use Rattle.resolution.specs.Positions.{is_visible}
 use Rattle.resolution.specs.Resolution.{Refusal, State}
 use Rattle.resolution.specs.Resolution as Resolution
 use Rattle.resolution.specs.Resolve.{answered, configuration_of, edge_at, member_at, refused, resolve, told, unnamed_at}
-use Rattle.resolution.specs.declared.resolve.Outcome.TheVariants as Outcome
 use Rattle.resolution.proofs.ConfigurationWords.{member-not, edge-not, unnamed-not}
+use Rattle.std.specs.Prelude.{Ok, Err}
 
 configured_zero : (s : List Descriptor) (rq : Request) (ms : List Descriptor) (rest : List ℕ) (k : ℕ) → is_visible s k ≡ false → AllZero (configuration_of s rq ms ++ rest) k
 unfolding configuration_of
@@ -30,17 +29,17 @@ configured_zero s rq ms rest k v = record {
 }
 
 module _ (s q ws : List ℕ) (k : ℕ) (v : is_visible (modules s) k ≡ false) where
-  told-zero : (r : Result State Refusal) → (told s q ws r).outcome ≡ Outcome.Accepted → AllZero (told s q ws r).words k
+  told-zero : (r : Result State Refusal) → (told s q ws r).outcome ≡ Ok tt → AllZero (told s q ws r).words k
   unfolding told refused
   told-zero (failed a) h = clash (cc)
   told-zero (done st) h = configured_zero (modules s) (request_of q) st.resolved (drop word_count ws) k v
 
-  answered-zero : (a : SetAnswer) → (answered s q ws a).outcome ≡ Outcome.Accepted → AllZero (answered s q ws a).words k
+  answered-zero : (a : CountAnswer) → (answered s q ws a).outcome ≡ Ok tt → AllZero (answered s q ws a).words k
   unfolding answered refused
-  answered-zero (Set.Refused e) h = clash (cc)
-  answered-zero (Set.Modules n) h = told-zero (Resolution.resolve (modules s) (request_of q)) h
+  answered-zero (Err e) h = clash (cc)
+  answered-zero (Ok n) h = told-zero (Resolution.resolve (modules s) (request_of q)) h
 
   -- the words that `resolve` writes have none of its bits set
-  pub hidden-zero : (resolve s q ws).outcome ≡ Outcome.Accepted → AllZero (resolve s q ws).words k
+  pub hidden-zero : (resolve s q ws).outcome ≡ Ok tt → AllZero (resolve s q ws).words k
   unfolding resolve
-  hidden-zero h = answered-zero (with_words ws (check_inputs s q).answer) h
+  hidden-zero h = answered-zero (with_words ws (count_of (check_inputs s q))) h

@@ -10,7 +10,6 @@ use mathlib.Core.List.{List, [], ◌∷◌, map}
 use lib.ListN.{length, get_or}
 use lib.Dec.{eqb}
 use borrow.Author.Tests.{eq-eqb, eqb-true}
-use Rattle.records.specs.declared.finder.Found.TheVariants.{At, Nothing}
 use Rattle.records.proofs.bytes.Laws.{same-eq}
 use Rattle.records.proofs.finder.Modules.{is_at_lem, at-is}
 use Rattle.records.proofs.Logic.{true≠false}
@@ -22,6 +21,7 @@ use Rattle.resolution.specs.Positions.{module_at, is_visible}
 use Rattle.resolution.specs.Resolution.{find, has_module, index_of, names}
 use Rattle.resolution.proofs.Find.{find-mem}
 use Rattle.resolution.proofs.Lists.{→same}
+use Rattle.std.specs.Prelude.{Some, None}
 
 -- ---- the position of a name
 
@@ -55,14 +55,14 @@ find_none n (m ∷ ms) h = turned (same_bytes m.name n) (find_none n ms) h
     turned false below k = below k
 
 -- lookup among the names, as the finder does it
-pub find-name : (n : Name) (s : List Descriptor) (k : ℕ) → find_name (names s) n k ≡ pick_found (has_module s n) (At (k + index_of n s)) Nothing
+pub find-name : (n : Name) (s : List Descriptor) (k : ℕ) → find_name (names s) n k ≡ pick_found (has_module s n) (Some (k + index_of n s)) None
 unfolding find_name has_module any index_of
 find-name n [] k = refl
 find-name n (m ∷ ms) k = turned (same_bytes m.name n) (find-name n ms (suc k))
   where
-    turned : (b : Bool) → find_name (names ms) n (suc k) ≡ pick_found (has_module ms n) (At (suc k + index_of n ms)) Nothing
-        → pick_found b (At k) (find_name (names ms) n (suc k)) ≡ pick_found (b || has_module ms n) (At (k + cond b 0 (suc (index_of n ms)))) Nothing
-    turned true below = ap At (sym (add-zero k))
+    turned : (b : Bool) → find_name (names ms) n (suc k) ≡ pick_found (has_module ms n) (Some (suc k + index_of n ms)) None
+        → pick_found b (Some k) (find_name (names ms) n (suc k)) ≡ pick_found (b || has_module ms n) (Some (k + cond b 0 (suc (index_of n ms)))) None
+    turned true below = ap Some (sym (add-zero k))
     turned false below = let e : suc k + index_of n ms ≡ k + suc (index_of n ms) = omega arith in rw (below, e)
 
 -- what the finder's answer says of a name
@@ -72,20 +72,20 @@ pub record Located (n : Name) (s : List Descriptor) (i : ℕ) : Type 0 where
   pub is : find n s ≡ some (module_at s i)
   pub index : index_of n s ≡ i
 
-pub located : (n : Name) (s : List Descriptor) (i : ℕ) → find_name (names s) n 0 ≡ At i → Located n s i
+pub located : (n : Name) (s : List Descriptor) (i : ℕ) → find_name (names s) n 0 ≡ Some i → Located n s i
 located n s i e = turned (has_module s n) refl (sym (find-name n s 0) ∙ e)
   where
-    turned : (b : Bool) → has_module s n ≡ b → pick_found b (At (0 + index_of n s)) Nothing ≡ At i → Located n s i
+    turned : (b : Bool) → has_module s n ≡ b → pick_found b (Some (0 + index_of n s)) None ≡ Some i → Located n s i
     turned true h k =
         let y : 0 + index_of n s ≡ i = cc in
         let z : index_of n s ≡ i = omega arith in
         record { observable = h; within = subst (λ (x : ℕ). x < length s) z (index_in n s h); is = subst (λ (x : ℕ). find n s ≡ some (module_at s x)) z (find_at n s h); index = z }
     turned false h k = absurd (let z : ◌≡◌ {A = ℕ} 0 1 = cc in omega arith)
 
-pub not_located : (n : Name) (s : List Descriptor) → find_name (names s) n 0 ≡ Nothing → (has_module s n ≡ false) × (find n s ≡ none)
+pub not_located : (n : Name) (s : List Descriptor) → find_name (names s) n 0 ≡ None → (has_module s n ≡ false) × (find n s ≡ none)
 not_located n s e = turned (has_module s n) refl (sym (find-name n s 0) ∙ e)
   where
-    turned : (b : Bool) → has_module s n ≡ b → pick_found b (At (0 + index_of n s)) Nothing ≡ Nothing → (has_module s n ≡ false) × (find n s ≡ none)
+    turned : (b : Bool) → has_module s n ≡ b → pick_found b (Some (0 + index_of n s)) None ≡ None → (has_module s n ≡ false) × (find n s ≡ none)
     turned true h k = absurd (let z : ◌≡◌ {A = ℕ} 0 1 = cc in omega arith)
     turned false h k = (h, find_none n s h)
 

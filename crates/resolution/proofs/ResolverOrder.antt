@@ -17,8 +17,7 @@ use Rattle.records.specs.Set.{name_at}
 use Rattle.records.specs.declared.error.Input.{Input}
 use Rattle.records.specs.declared.error.ModuleError.{ModuleError}
 use Rattle.records.specs.declared.error.ModuleError.TheVariants.{JavaBaseNotFound}
-use Rattle.records.specs.declared.finder.Found.{Found}
-use Rattle.records.specs.declared.finder.Found.TheVariants.{At, Nothing}
+use Rattle.records.specs.Finder.{Found}
 use Rattle.records.proofs.Logic.{clash, and_both, and_left, and_right, by, not_of_false, true≠false}
 use Rattle.records.proofs.finder.Modules.{found_at}
 use Rattle.records.specs.Descriptor.{requirement_of}
@@ -31,6 +30,7 @@ use Rattle.resolution.specs.Resolver.{Inputs, Line, front_at, goes_on, halted, h
 use Rattle.resolution.specs.Row.{count_below, holds}
 use Rattle.resolution.proofs.Lists.{any_in, any_out}
 use Rattle.resolution.proofs.row.Counts.{count-le, count-strict}
+use Rattle.std.specs.Prelude.{Some, None}
 
 -- no position stands twice
 unfoldable pub all_differ : List ℕ → Bool
@@ -117,7 +117,7 @@ in-order-queued n v l f o = turned l.halt v f
     turned (Halt.Refused e) v₂ f₂ = o
 
 module _ (w : Inputs) where
-  locate-below : (x : Name) (i : ℕ) → locate w x ≡ At i → i < w.count
+  locate-below : (x : Name) (i : ℕ) → locate w x ≡ Some i → i < w.count
   unfolding locate
   locate-below x i e =
       let r = found_at (map (name_at w.set) (take w.count w.starts)) x 0 i e in
@@ -143,8 +143,8 @@ module _ (w : Inputs) where
       here i l false = record { below = λ j h. clash (cc) }
 
       turned : (f : Found) → locate w x ≡ f → InSet w.count (want_found w x static e f)
-      turned (At i) f = here i (locate-below x i f) (holds w.permitted i)
-      turned Nothing f = passed static (want_absent w.in_round (is_met_before w x) (is_permitted (request_of w.request) x) _ e) (absent w.in_round (is_met_before w x) (is_permitted (request_of w.request) x) _)
+      turned (Some i) f = here i (locate-below x i f) (holds w.permitted i)
+      turned None f = passed static (want_absent w.in_round (is_met_before w x) (is_permitted (request_of w.request) x) _ e) (absent w.in_round (is_met_before w x) (is_permitted (request_of w.request) x) _)
 
   led : (b : Bool) {v : Wanted} → InSet w.count v → InSet w.count (pick_wanted b v Pass)
   led true h = h

@@ -14,14 +14,13 @@ use Rattle.records.specs.Name.{java_base}
 use Rattle.records.specs.Record.{body_of, is_of, bodies_in, nth_in}
 use Rattle.records.specs.Descriptor.{Requirement, Descriptor}
 use Rattle.records.specs.Request.{Request, request_of, is_permitted}
-use Rattle.records.specs.Set.{modules, check_set}
+use Rattle.records.specs.Set.{modules, check_set, starts_in}
 use Rattle.records.specs.Finder.{find_name}
 use Rattle.records.specs.declared.error.Input.{Input}
 use Rattle.records.specs.declared.error.ModuleError.{ModuleError}
-use Rattle.records.specs.declared.finder.Found.{Found}
-use Rattle.records.specs.declared.finder.Found.TheVariants.{At, Nothing}
+use Rattle.records.specs.Finder.{Found}
 use Rattle.records.specs.declared.record.Kind.{Kind}
-use Rattle.records.specs.declared.record.Next.{Next}
+use Rattle.records.specs.Record.{Next}
 use Rattle.records.proofs.Logic.{clash, by, true≠false}
 use Rattle.records.proofs.set.Blocks.{GoodSet}
 use Rattle.resolution.specs.declared.resolver.Halt.{Halt}
@@ -39,12 +38,13 @@ use Rattle.resolution.proofs.Find.{find-mem}
 use Rattle.resolution.proofs.Lists.{any_in, any_out, map-append, map-out}
 use Rattle.resolution.proofs.Positions.{Located, at_mem, has-at, located, not_located, visible_in, located_visible}
 use Rattle.resolution.proofs.Sets.{set-length}
+use Rattle.std.specs.Prelude.{Some, None}
 
 -- what the positional form reads, and that it is what the definition reads: a set that the check took, its table, and the row of
 -- the positions whose modules are permitted and not hidden
 pub record Given (s q : List ℕ) (n : ℕ) (t ws : List ℕ) : Type 0 where
   pub good : GoodSet s n t
-  pub table : (check_set s).starts ≡ t
+  pub table : (starts_in (check_set s)) ≡ t
   pub permits : (i : ℕ) → i < n → holds ws i ≡ is_visible (modules s) i && is_permitted (request_of q) (module_at (modules s) i).name
 
 abbrev pub inputs : List ℕ → List ℕ → ℕ → List ℕ → List ℕ → Bool → List ℕ → Inputs
@@ -220,12 +220,12 @@ module _ (s q : List ℕ) (n : ℕ) (t ws : List ℕ) (g : Given s q n t ws) whe
         turned : (f : Found) → locate w x ≡ f
             → P (queued (want_found w x static e f) (line_at ps qs (halt_of s q h)))
             (short_next rq (modules s) (choose true in_round (is_met in_round old (modules s) (modules_at s ps) (short_line s qs h) x) (has_module (modules s) x) static) x o (short_line s qs h) k)
-        turned (At i) f =
+        turned (Some i) f =
             let l = located x (modules s) i (sym (locate-is x) ∙ f) in
             let pm : holds ws i ≡ is_permitted rq x
             = g.permits i (omega (arith, l.within, set-length s n t g.good)) ∙ ap (λ (v : Bool). v && is_permitted rq (module_at (modules s) i).name) (located_visible x (modules s) i l) ∙ ap (is_permitted rq) (find-mem x (modules s) (module_at (modules s) i) l.is).1 in
             rw pm (queue-found P in_round old x static o k i l ps qs h a b (λ rs v. more rs h v nh))
-        turned Nothing f =
+        turned None f =
             let l = not_located x (modules s) (sym (locate-is x) ∙ f) in
             rw (absent-at x ps a l.0, absent-at x qs b l.0, l.0)
             (absent l.1 in_round static (is_permitted rq x) (same_bytes x java_base) (is_met_before w x) (in_round && old x) refl refl refl

@@ -11,12 +11,10 @@ use Rattle.records.specs.Name.{java_base, mem_name, name_of}
 use Rattle.records.specs.Record.{records, bodies, bodies_in}
 use Rattle.records.specs.Descriptor.{Descriptor}
 use Rattle.records.specs.Request.{Request, request_of, is_permitted}
-use Rattle.records.specs.Set.{modules, check_set}
+use Rattle.records.specs.Set.{modules, check_set, starts_in}
 use Rattle.records.specs.declared.error.Input.TheVariants as Input
 use Rattle.records.specs.declared.error.ModuleError.TheVariants.{ModuleNotFound, JavaBaseNotFound}
 use Rattle.records.specs.declared.record.Kind.TheVariants as Kind
-use Rattle.records.specs.declared.set.Checked.{Checked}
-use Rattle.records.specs.declared.set.SetAnswer.TheVariants.{Modules}
 use Rattle.records.proofs.set.Blocks.{good-set}
 use Rattle.records.proofs.Logic.{true≠false}
 use Rattle.resolution.specs.declared.resolver.Halt.TheVariants as Halt
@@ -40,6 +38,7 @@ use Rattle.resolution.proofs.ResolverRounds.{fuel_is, met-is, room_waits, rounds
 use Rattle.resolution.proofs.Room.{Room, room-seeds, waiting}
 use Rattle.resolution.proofs.Sets.{set-length}
 use Rattle.resolution.proofs.Short.{short-resolve}
+use Rattle.std.specs.Prelude.{Ok}
 
 map-map : {A B C : Type 0} (f : A → B) (g : B → C) (l : List A) → map g (map f l) ≡ map (λ (x : A). g (f x)) l
 map-map f g [] = refl
@@ -155,10 +154,10 @@ pub record Accepts (s : List ℕ) (n : ℕ) (l : Line) (ms : List Descriptor) : 
   pub modules_are : ms ≡ map (module_at (modules s)) l.order
   pub order_is : l.order ≡ map (λ (m : Descriptor). index_of m.name (modules s)) ms
 
-module _ (s q : List ℕ) (n : ℕ) (t : List ℕ) (e : check_set s ≡ record { answer = Modules n; starts = t })
+module _ (s q : List ℕ) (n : ℕ) (t : List ℕ) (e : check_set s ≡ Ok (record { count = n; starts = t }))
     (ws : List ℕ) (permits : (i : ℕ) → i < n → holds ws i ≡ is_visible (modules s) i && is_permitted (request_of q) (module_at (modules s) i).name) where
   given : Given s q n t ws
-  given = record { good = good-set s n t e; table = ap (λ (c : Checked). c.starts) e; permits = permits }
+  given = record { good = good-set s n t e; table = ap starts_in e; permits = permits }
 
   -- a position is that of its module
   own-positions : (ps : List ℕ) → Within s ps → map (λ (m : Descriptor). index_of m.name (modules s)) (modules_at s ps) ≡ ps

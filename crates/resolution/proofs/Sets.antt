@@ -18,8 +18,6 @@ use Rattle.records.specs.Record.{records}
 use Rattle.records.specs.Set.{name_at, blocks, block_at, modules, check_set}
 use Rattle.records.specs.Finder.{find_module, is_first, found_from, visible_blocks}
 use Rattle.records.specs.Sorted.{Indexed}
-use Rattle.records.specs.declared.finder.Found.TheVariants.{At, Nothing}
-use Rattle.records.specs.declared.set.SetAnswer.TheVariants.{Modules}
 use Rattle.records.proofs.Logic.{by}
 use Rattle.records.proofs.set.Blocks.{GoodSet, good-set}
 use Rattle.records.proofs.set.OnePlace.{none_hidden, all-visible}
@@ -34,6 +32,7 @@ use Rattle.resolution.proofs.Accepted.{accepted}
 use Rattle.resolution.proofs.Fuel.{rounds_1024}
 use Rattle.resolution.proofs.Positions.{Located, get_or-any, located, not_located, visible_in}
 use Rattle.resolution.proofs.Wider.{modules-over}
+use Rattle.std.specs.Prelude.{Some, None, Ok}
 
 module _ (s : List ℕ) (n : ℕ) (t : List ℕ) (g : GoodSet s n t) where
   pub set-length : length (modules s) ≡ n
@@ -53,7 +52,7 @@ module _ (s : List ℕ) (n : ℕ) (t : List ℕ) (g : GoodSet s n t) where
 
 -- ---- by the table
 
-module _ (s : List ℕ) (n : ℕ) (t : List ℕ) (e : check_set s ≡ record { answer = Modules n; starts = t }) where
+module _ (s : List ℕ) (n : ℕ) (t : List ℕ) (e : check_set s ≡ Ok (record { count = n; starts = t })) where
   long : length (map (name_at s) (take n t)) ≡ n
   long = ap length (good-set s n t e).names ∙ length-map (modules s) (λ (m : Descriptor). m.name) ∙ set-length s n t (good-set s n t e)
 
@@ -92,11 +91,11 @@ pub lookup-index : (s t index : List ℕ) (n : ℕ) → Lookup s t n index → I
 lookup-index s t index n x = x.indexed
 
 -- what the finder says of a name
-pub set_located : (s : List ℕ) (n : Name) (i : ℕ) → find_module s n ≡ At i → Located n (modules s) i
+pub set_located : (s : List ℕ) (n : Name) (i : ℕ) → find_module s n ≡ Some i → Located n (modules s) i
 unfolding find_module
 set_located s n i e = located n (modules s) i e
 
-pub set-not_located : (s : List ℕ) (n : Name) → find_module s n ≡ Nothing → (has_module (modules s) n ≡ false) × (find n (modules s) ≡ none)
+pub set-not_located : (s : List ℕ) (n : Name) → find_module s n ≡ None → (has_module (modules s) n ≡ false) × (find n (modules s) ≡ none)
 unfolding find_module
 set-not_located s n e = not_located n (modules s) e
 
@@ -120,12 +119,12 @@ unfolding visible_blocks observable modules
 blocks-observable s = visible-modules s (names (modules s)) (blocks s) 0
 
 -- of a set without PL they are all: nothing is hidden
-pub one-place-observable : (s : List ℕ) (n : ℕ) (t : List ℕ) → check_set s ≡ record { answer = Modules n; starts = t } → has_place (records s) ≡ false → observable (modules s) ≡ modules s
+pub one-place-observable : (s : List ℕ) (n : ℕ) (t : List ℕ) → check_set s ≡ Ok (record { count = n; starts = t }) → has_place (records s) ≡ false → observable (modules s) ≡ modules s
 unfolding modules
 one-place-observable s n t e one = sym (blocks-observable s) ∙ ap (map descriptor_of) (none_hidden s n t e one)
 
 -- and a position is visible just if it has a module
-pub one-place-visible : (s : List ℕ) (n : ℕ) (t : List ℕ) → check_set s ≡ record { answer = Modules n; starts = t } → has_place (records s) ≡ false → (k : ℕ) → is_visible (modules s) k ≡ ltb k n
+pub one-place-visible : (s : List ℕ) (n : ℕ) (t : List ℕ) → check_set s ≡ Ok (record { count = n; starts = t }) → has_place (records s) ≡ false → (k : ℕ) → is_visible (modules s) k ≡ ltb k n
 unfolding is_visible
 one-place-visible s n t e one k = by (ltb k n)
     (λ h. all-visible s n t e one k (ltb-true k n h) ∙ sym h)

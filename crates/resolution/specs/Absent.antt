@@ -4,8 +4,8 @@ use Rattle.records.specs.declared.error.Input.{Input}
 use Rattle.records.specs.declared.error.Input.TheVariants.{Set, Request, Packages}
 use Rattle.records.specs.declared.error.ModuleError.{ModuleError}
 use Rattle.records.specs.declared.error.ModuleError.TheVariants.{Malformed, TooLarge, Repeated, OutputTooShort, ModuleNotFound, JavaBaseNotFound, SplitPackage, DescriptorParseError, InvalidAutomaticModuleName, InvalidModuleName}
-use Rattle.resolution.specs.declared.resolve.Outcome.{Outcome}
-use Rattle.resolution.specs.declared.resolve.Outcome.TheVariants.{Accepted, Refused}
+use Rattle.resolution.specs.Resolve.{Outcome}
+use Rattle.std.specs.Prelude.{Ok, Err}
 
 -- the n bytes from `at` on, of the set s or of the request q
 unfoldable pub part_of : List ℕ → List ℕ → Input → ℕ → ℕ → List ℕ
@@ -29,5 +29,5 @@ absent_in s q InvalidModuleName = []
 -- the absent name of an outcome; empty where it is no refusal 5
 unfoldable pub absent_name : List ℕ → List ℕ → Outcome → List ℕ
 unfolding absent_in
-absent_name s q Accepted = []
-absent_name s q (Refused e) = absent_in s q e
+absent_name s q (Ok tt) = []
+absent_name s q (Err e) = absent_in s q e

@@ -7,24 +7,24 @@ use Rattle.records.specs.Error.{number_of}
 use Rattle.records.specs.Name.{java_base, mem_name}
 use Rattle.records.specs.Descriptor.{Requirement}
 use Rattle.records.specs.Request.{request_of, is_permitted, check_inputs}
-use Rattle.records.specs.Set.{modules}
+use Rattle.records.specs.Set.{modules, count_of}
 use Rattle.records.specs.declared.error.Input.{Input}
 use Rattle.records.specs.declared.error.ModuleError.{ModuleError}
 use Rattle.records.specs.declared.error.ModuleError.TheVariants.{OutputTooShort, ModuleNotFound, JavaBaseNotFound, SplitPackage}
-use Rattle.records.specs.declared.set.SetAnswer.TheVariants as Set
 use Rattle.resolution.specs.Lists.{Name, Mem}
 use Rattle.resolution.specs.Absent.{part_of}
 use Rattle.resolution.specs.Closed.{Closed}
 use Rattle.resolution.specs.Configuration.{word_count}
 use Rattle.resolution.specs.Positions.{module_at, is_visible}
 use Rattle.resolution.specs.Resolution.{has_module}
+use Rattle.std.specs.Prelude.{Ok, Err}
 
 -- Below, s is the set and q the request, as bytes.
 
 -- the check takes both: none of 1, 2 and 3 is met
 pub record Taken (s q : List ℕ) : Type 0 where
   pub modules : ℕ
-  pub is : (check_inputs s q).answer ≡ Set.Modules modules
+  pub is : count_of (check_inputs s q) ≡ Ok modules
 
 -- 4 (U12): fewer words are lent than a configuration has
 pub record ShortWords (s q ws : List ℕ) : Type 0 where
@@ -79,7 +79,7 @@ pub record SharedPackage (s q : List ℕ) (p : Name) (owner second : ℕ) : Type
 
 -- why `resolve` refuses with e, where ws are the lent words: 1, 2 and 3 are those of the check; 8, 9 and 10 do not occur
 pub data Cause (s q ws : List ℕ) : ModuleError → Type 1 where
-  is-checked : (e : ModuleError) → number_of e ≤ 3 → (check_inputs s q).answer ≡ Set.Refused e → Cause s q ws e
+  is-checked : (e : ModuleError) → number_of e ≤ 3 → count_of (check_inputs s q) ≡ Err e → Cause s q ws e
   is-short : ShortWords s q ws → Cause s q ws (OutputTooShort word_count)
   is-absent : (i : Input) (at n : ℕ) → AbsentModule s q i (part_of s q i at n) → Cause s q ws (ModuleNotFound i at n)
   no-base : AbsentBase s q → Cause s q ws JavaBaseNotFound

@@ -4,24 +4,24 @@
 use Rattle.std.specs.Prelude.{ℕ, zero, suc, ◌/◌, ◌%◌, ◌^◌, Bool, true, false, cond, List, [], ◌∷◌, ◌++◌, ltb, length, get_or, take, drop, set}
 use Rattle.std.specs.Int.Bits.{bit_or}
 use Rattle.records.specs.declared.error.ModuleError.TheVariants.{OutputTooShort}
-use Rattle.records.specs.declared.set.SetAnswer.{SetAnswer}
-use Rattle.records.specs.declared.set.SetAnswer.TheVariants as Set
+use Rattle.records.specs.Set.{CountAnswer}
 use Rattle.resolution.specs.Row.{holds, one, words}
 use Rattle.resolution.specs.Graph.{rows_length, edge, unnamed_edge}
+use Rattle.std.specs.Prelude.{Ok, Err}
 
 -- "4,616 words in all"
 abbrev pub word_count : ℕ
 word_count = 4616
 
-abbrev pub pick_answer : Bool → SetAnswer → SetAnswer → SetAnswer
+abbrev pub pick_answer : Bool → CountAnswer → CountAnswer → CountAnswer
 pick_answer true a b = a
 pick_answer false a b = b
 
 -- "A shorter slice is an output too short, number 4 with 4,616, tested after the records": what the check of the inputs says, and then
 -- the number of words
-unfoldable pub with_words : List ℕ → SetAnswer → SetAnswer
-with_words ws (Set.Refused e) = Set.Refused e
-with_words ws (Set.Modules n) = pick_answer (ltb (length ws) word_count) (Set.Refused (OutputTooShort word_count)) (Set.Modules n)
+unfoldable pub with_words : List ℕ → CountAnswer → CountAnswer
+with_words ws (Err e) = Err e
+with_words ws (Ok n) = pick_answer (ltb (length ws) word_count) (Err (OutputTooShort word_count)) (Ok n)
 
 -- ---- the words read: the first 4,616 alone, and of each ninth word of a row the lowest bit alone
 

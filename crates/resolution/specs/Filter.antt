@@ -1,19 +1,19 @@
 -- A quick test that a name is in none of the modules seen so far: a table of 65,536 bits, two of them for a name; and the
 -- questions about modules at positions as the code asks them, of a set and the table of its starts.
-use Rattle.std.specs.Prelude.{ℕ, ◌/◌, ◌%◌, ◌≡◌, Bool, true, false, ◌&&◌, ◌||◌, cond, List, [], eqb}
+use Rattle.std.specs.Prelude.{ℕ, ◌/◌, ◌%◌, ◌≡◌, Bool, true, false, ◌&&◌, ◌||◌, List, [], eqb}
 use Rattle.std.proofs.Math.Option.{Option, none, some}
+use Rattle.records.specs.Bytes.{before_bytes}
 use Rattle.records.specs.Name.{mem_name}
 use Rattle.records.specs.Order.{name_in}
 use Rattle.records.specs.Record.{bodies}
-use Rattle.records.specs.declared.finder.Found.{Found}
-use Rattle.records.specs.declared.finder.Found.TheVariants.{At, Nothing}
+use Rattle.records.specs.Finder.{Found}
 use Rattle.records.specs.declared.record.Kind.{Kind}
 use Rattle.resolution.specs.Lists.{Name, Mem, any, keep, first}
 use Rattle.resolution.specs.Owner.{least, lesser}
 use Rattle.resolution.specs.Row.{holds}
 use Rattle.resolution.specs.Hash.{hash_of}
 use Rattle.resolution.specs.Resolver.{Inputs, block_of, names_of, requires_name}
-use Rattle.resolution.specs.declared.modules.Least.{Least}
+use Rattle.std.specs.Prelude.{Some, None}
 
 -- ---- the filter
 
@@ -45,8 +45,14 @@ pub record Covers (w : Inputs) (k : Kind) (words ps : List ℕ) : Type 0 where
 -- ---- the least of some names
 
 -- where the name stands in the set is told by an entry
-unfoldable pub least_of : List ℕ → Least → Option Name
-least_of set l = cond l.found (some (name_in set l.entry)) none
+unfoldable pub least_of : List ℕ → Found → Option Name
+least_of set (Some entry) = some (name_in set entry)
+least_of set None = none
+
+-- this name stands before it, or there is none
+unfoldable pub is_less : List ℕ → Found → Name → Bool
+is_less set (Some entry) n = before_bytes n (name_in set entry)
+is_less set None n = true
 
 -- the lesser of two, where there are two
 unfoldable pub lesser_of : Option Name → Option Name → Option Name
@@ -76,13 +82,13 @@ abbrev pub asked : List ℕ → List ℕ → Inputs
 asked set starts = asked_before set [] starts []
 
 unfoldable pub found_of : Option ℕ → Found
-found_of none = Nothing
-found_of (some i) = At i
+found_of none = None
+found_of (some i) = Some i
 
 -- the position, 0 where there is none
 unfoldable pub position_in : Found → ℕ
-position_in (At i) = i
-position_in Nothing = 0
+position_in (Some i) = i
+position_in None = 0
 
 -- of these positions, the first whose module has a record of this kind with this name in front
 unfoldable pub first_named : Inputs → Kind → List ℕ → Name → Option ℕ

@@ -27,8 +27,10 @@ pub mod Resolver
 pub mod Hash
 pub mod Filter
 pub mod Lookup
+pub mod ModuleTable
 pub mod Table
 pub mod Known
+pub mod Sources
 pub mod Runs
 pub mod Readability
 pub mod Configure

@@ -4,7 +4,8 @@ use Rattle.records.specs.Name.{mem_name}
 use Rattle.records.specs.Descriptor.{Descriptor}
 use Rattle.records.specs.Set.{name_at}
 use Rattle.records.specs.Finder.{is_first}
-use Rattle.records.specs.Sorted.{Indexed}
+use Rattle.std.proofs.Props.{props}
+use Rattle.records.specs.Sorted.{Indexed, KeysAt}
 use Rattle.resolution.specs.Lists.{Name}
 use Rattle.resolution.specs.Configuration.{member_bit}
 
@@ -13,6 +14,14 @@ pub record Lookup (set starts : List ℕ) (count : ℕ) (index : List ℕ) : Typ
   pub few : count ≤ 512
   pub within : count ≤ length starts
   pub indexed : Indexed (map (name_at set) (take count starts)) index
+
+-- there is one proof of it at most, so a struct may keep it
+keys-prop : (names : List (List ℕ)) (index : List ℕ) (p : ℕ) → IsProp (KeysAt names index p)
+unfolding KeysAt
+keys-prop names index p = Prim.hlevel props
+
+pub lookup-prop : (set starts : List ℕ) (count : ℕ) (index : List ℕ) → IsProp (Lookup set starts count index)
+lookup-prop set starts count index = Prim.hlevel (keys-prop, props)
 
 -- the module m at k owns p, as code finds it: the packages first, of the members alone, and last whether the name finds the
 -- position. ws are the words of the configuration, l the names of the set's modules

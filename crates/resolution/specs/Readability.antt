@@ -8,13 +8,13 @@ use Rattle.records.specs.Descriptor.{Requirement, Descriptor, descriptor_of}
 use Rattle.records.specs.Request.{Read, request_of}
 use Rattle.records.specs.Set.{name_at, block_at, modules}
 use Rattle.records.specs.Finder.{find_name, pick_found, is_at}
-use Rattle.records.specs.declared.finder.Found.{Found}
-use Rattle.records.specs.declared.finder.Found.TheVariants.{At, Nothing}
+use Rattle.records.specs.Finder.{Found}
 use Rattle.resolution.specs.Lists.{Name, Mem, any}
 use Rattle.resolution.specs.Resolution.{find}
 use Rattle.resolution.specs.Row.{holds}
 use Rattle.resolution.specs.Graph.{edge, ninth, unnamed_edge, ReachedFrom}
 use Rattle.resolution.specs.Resolve.{member_at, edge_at, unnamed_at}
+use Rattle.std.specs.Prelude.{Some, None}
 
 -- the names of the first n modules of the table t of the set s
 abbrev pub table_names : List ℕ → List ℕ → ℕ → List Name
@@ -22,8 +22,8 @@ table_names s t n = map (name_at s) (take n t)
 
 -- what is found, if it is a member
 unfoldable pub member_of : List ℕ → Found → Found
-member_of ws (At i) = pick_found (holds ws i) (At i) Nothing
-member_of ws Nothing = Nothing
+member_of ws (Some i) = pick_found (holds ws i) (Some i) None
+member_of ws None = None
 
 -- the name is that of the member at j
 unfoldable pub is_named : List Name → List ℕ → Name → ℕ → Bool
@@ -79,8 +79,8 @@ pub record ModuleReads (l : List Name) (ws : List ℕ) (g : List ℕ) (m : Descr
 
 -- what is found stands below 512
 unfoldable pub Below : Found → Type 0
-Below (At i) = i < 512
-Below Nothing = Unit {0}
+Below (Some i) = i < 512
+Below None = Unit {0}
 
 -- the edges from p to the positions that pass
 unfoldable pub edges_of : ℕ → (ℕ → Bool) → ℕ → ℕ → Bool

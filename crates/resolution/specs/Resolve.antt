@@ -5,14 +5,13 @@ use Rattle.records.specs.Name.{all_unnamed}
 use Rattle.records.specs.Record.{records, nth_in, first_in}
 use Rattle.records.specs.Descriptor.{Descriptor}
 use Rattle.records.specs.Request.{Request, request_of, check_inputs}
-use Rattle.records.specs.Set.{block_at, modules, check_set}
+use Rattle.records.specs.Set.{block_at, modules, check_set, count_of, starts_in}
 use Rattle.records.specs.declared.error.Input.TheVariants as Input
 use Rattle.records.specs.declared.error.ModuleError.{ModuleError}
 use Rattle.records.specs.declared.error.ModuleError.TheVariants.{TooLarge, ModuleNotFound, JavaBaseNotFound, SplitPackage}
-use Rattle.records.specs.declared.record.Next.{Next}
+use Rattle.records.specs.Record.{Next}
 use Rattle.records.specs.declared.record.Kind.TheVariants as Kind
-use Rattle.records.specs.declared.set.SetAnswer.{SetAnswer}
-use Rattle.records.specs.declared.set.SetAnswer.TheVariants as Set
+use Rattle.records.specs.Set.{CountAnswer}
 use Rattle.resolution.specs.Lists.{Name}
 use Rattle.resolution.specs.Loop.{Result, failed, done}
 use Rattle.resolution.specs.Resolution.{has_module, index_of, QueuedBy, base, root, required, provider, Refusal, module_not_found, java_base_not_found, split_package, ran_out, State}
@@ -20,23 +19,26 @@ use Rattle.resolution.specs.Resolution as Resolution
 use Rattle.resolution.specs.Reads.{reads}
 use Rattle.resolution.specs.Positions.{module_at, is_visible}
 use Rattle.resolution.specs.Configuration.{word_count, with_words, words_of}
-use Rattle.resolution.specs.declared.resolve.Outcome.{Outcome}
-use Rattle.resolution.specs.declared.resolve.Outcome.TheVariants.{Accepted, Refused}
+use Rattle.std.specs.Prelude.{Some, None, Ok, Err, Result as Answer}
+
+-- accepted, or why the set and the request are refused
+abbrev pub Outcome : Type 0
+Outcome = Answer (Unit {0}) ModuleError
 
 -- ---- refusals 5 to 7 with their particulars
 
 -- where the body of a record starts
 unfoldable pub body_start : Next → ℕ
-body_start (Next.Body start len next) = start
-body_start Next.Nothing = 0
+body_start (Some span) = span.start
+body_start None = 0
 
 -- where module p starts in the set
 unfoldable pub start_in : List ℕ → ℕ → ℕ
-start_in s p = get_or (check_set s).starts p 0
+start_in s p = get_or (starts_in (check_set s)) p 0
 
 -- its records, by the table
 unfoldable pub records_at : List ℕ → ℕ → List (List ℕ)
-records_at s p = records (block_at s (check_set s).starts p)
+records_at s p = records (block_at s (starts_in (check_set s)) p)
 
 -- 5: "The name of refusal 5 is handed back as a part of the request or of the set". An RT has the name behind a length byte, an
 -- RQ behind two bytes of flags and a length byte. The last two do not occur: an absent java.base is 6, and a provider is a
@@ -89,20 +91,20 @@ pub record ResolveResult : Type 0 where
 
 -- "a refusal changes none"
 unfoldable pub refused : ModuleError → List ℕ → ResolveResult
-refused e ws = record { outcome = Refused e; words = ws }
+refused e ws = record { outcome = Err e; words = ws }
 
 -- "words beyond stay unchanged"
 unfoldable pub told : List ℕ → List ℕ → List ℕ → Result State Refusal → ResolveResult
 unfolding refused error_of configuration_of
 told s q ws (failed r) = refused (error_of s q r) ws
-told s q ws (done st) = record { outcome = Accepted; words = configuration_of (modules s) (request_of q) st.resolved ++ drop word_count ws }
+told s q ws (done st) = record { outcome = (Ok tt); words = configuration_of (modules s) (request_of q) st.resolved ++ drop word_count ws }
 
-unfoldable pub answered : List ℕ → List ℕ → List ℕ → SetAnswer → ResolveResult
+unfoldable pub answered : List ℕ → List ℕ → List ℕ → CountAnswer → ResolveResult
 unfolding refused told
-answered s q ws (Set.Refused e) = refused e ws
-answered s q ws (Set.Modules n) = told s q ws (Resolution.resolve (modules s) (request_of q))
+answered s q ws (Err e) = refused e ws
+answered s q ws (Ok n) = told s q ws (Resolution.resolve (modules s) (request_of q))
 
 -- the set and the request as bytes, and the lent words: refusals 1 to 3 first, then 4, "before resolution", then 5 to 7 as met
 unfoldable pub resolve : List ℕ → List ℕ → List ℕ → ResolveResult
 unfolding answered with_words
-resolve s q ws = answered s q ws (with_words ws (check_inputs s q).answer)
+resolve s q ws = answered s q ws (with_words ws (count_of (check_inputs s q)))

@@ -12,8 +12,7 @@ use Rattle.records.specs.Finder.{find_name}
 use Rattle.records.specs.declared.error.Input.{Input}
 use Rattle.records.specs.declared.error.ModuleError.{ModuleError}
 use Rattle.records.specs.declared.error.ModuleError.TheVariants.{ModuleNotFound, JavaBaseNotFound, SplitPackage}
-use Rattle.records.specs.declared.finder.Found.{Found}
-use Rattle.records.specs.declared.finder.Found.TheVariants.{At, Nothing}
+use Rattle.records.specs.Finder.{Found}
 use Rattle.records.specs.declared.record.Kind.{Kind}
 use Rattle.resolution.specs.Lists.{Name, any, keep, first}
 use Rattle.resolution.specs.Owner.{least}
@@ -25,6 +24,7 @@ use Rattle.resolution.specs.declared.resolver.Wanted.{Wanted}
 use Rattle.resolution.specs.declared.resolver.Wanted.TheVariants.{Pass, Add, Stop, Refuse}
 use Rattle.resolution.specs.declared.resolver.Queue.{Queue}
 use Rattle.resolution.specs.declared.resolver.Phase.{Phase}
+use Rattle.std.specs.Prelude.{Some, None}
 
 -- ---- what is read
 
@@ -99,8 +99,8 @@ unfoldable pub want_unfound : Inputs → Name → ModuleError → Wanted
 want_unfound w n e = want_absent w.in_round (is_met_before w n) (is_permitted (request_of w.request) n) (same_bytes n java_base) e
 
 unfoldable pub want_found : Inputs → Name → Bool → ModuleError → Found → Wanted
-want_found w n static e (At i) = pick_wanted (holds w.permitted i) (Add i) Pass
-want_found w n static e Nothing = pick_wanted static Pass (want_unfound w n e)
+want_found w n static e (Some i) = pick_wanted (holds w.permitted i) (Add i) Pass
+want_found w n static e None = pick_wanted static Pass (want_unfound w n e)
 
 unfoldable pub want : Inputs → Name → Bool → ModuleError → Wanted
 want w n static e = want_found w n static e (locate w n)
@@ -179,6 +179,11 @@ pub record Fresh (count : ℕ) (order : List ℕ) : Type 0 where
   pub long : length order ≡ 1024
   pub few : count ≤ 512
   pub unmarked : (i : ℕ) → i < 512 → get_or order (512 + i) 0 ≡ 0
+
+-- and the empty queue
+pub record Unused (count : ℕ) (order : List ℕ) (q : Queue) : Type 0 where
+  pub fresh : Fresh count order
+  pub empty : q ≡ record { head = 0; tail = 0; halt = Halt.Open }
 
 -- `first` has the first n entries of the order
 pub record FirstOf (order : List ℕ) (n : ℕ) (first : List ℕ) : Type 0 where

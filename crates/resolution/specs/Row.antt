@@ -60,14 +60,13 @@ pub record Added (before : List ℕ) (k : ℕ) (after : List ℕ) : Type 0 where
   pub below : k < 512 → (j : ℕ) → holds after j ≡ holds before j || eqb j k
   pub above : 512 ≤ k → after ≡ before
 
--- r is the word w with bit j % 64 more. From 512 on there is no position j, and nothing changes
-pub record AddedBit (w j r : ℕ) : Type 0 where
-  pub below : j < 512 → (k : ℕ) → bit r k ≡ bit w k || eqb k (j % 64)
-  pub above : 512 ≤ j → r ≡ w
+-- no number from k on and before n satisfies p
+pub record NoneFrom (p : ℕ → Bool) (k n : ℕ) : Type 0 where
+  pub none : (i : ℕ) → k ≤ i → i < n → p i ≡ false
 
--- r is the first number from k on that satisfies p, n where there is none below n
-pub record FirstFrom (p : ℕ → Bool) (k n r : ℕ) : Type 0 where
+-- r is the first number from k on that satisfies p, and stands before n
+pub record First (p : ℕ → Bool) (k n r : ℕ) : Type 0 where
   pub from : k ≤ r
-  pub within : r ≤ n
+  pub below : r < n
   pub none : (i : ℕ) → k ≤ i → i < r → p i ≡ false
-  pub found : r < n → p r ≡ true
+  pub found : p r ≡ true

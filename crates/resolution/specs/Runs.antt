@@ -1,12 +1,12 @@
 -- What the code keeps from turn to turn: the queue with its array, and the tables of names.
-use Rattle.std.specs.Prelude.{◌≡◌, true, false, not, ◌&&◌, List, [], ℕ, ◌≤◌, ◌<◌, eqb, length, take}
+use Rattle.std.specs.Prelude.{◌≡◌, true, false, not, ◌&&◌, Option, List, [], ℕ, ◌≤◌, ◌<◌, eqb, length, take, drop}
 use Rattle.records.specs.declared.record.Kind.TheVariants as Kind
 use Rattle.resolution.specs.Resolver.{inputs_of, is_one_of, is_provider_at, Line, line_at, is_open, Ready}
 use Rattle.resolution.specs.Filter.{Covers, asked}
 use Rattle.resolution.specs.Table.{NamesTold}
 use Rattle.resolution.specs.declared.resolver.Phase.{Phase}
 use Rattle.resolution.specs.declared.resolver.Queue.{Queue}
-use Rattle.resolution.specs.declared.table.Listed.{Listed}
+use Rattle.resolution.specs.declared.table.Told.TheVariants.{Services}
 
 -- the packages of the modules resolved are marked
 pub record Running (count : ℕ) (set starts order packages : List ℕ) (q : Queue) : Type 0 where
@@ -32,11 +32,12 @@ pub record Unbound (phase : Phase) (set starts order : List ℕ) (bound : ℕ) (
   pub behind : bound ≤ q.head
 
 -- while they are queued
-pub record Binding (phase : Phase) (set starts order : List ℕ) (from to : ℕ) (table : List ℕ) (s : Listed) (q : Queue) : Type 0 where
+pub record Binding (phase : Phase) (set starts order : List ℕ) (from to : ℕ) (table : List ℕ) (s : Option ℕ) (q : Queue) : Type 0 where
   pub ready : Ready phase.count order q
-  pub told : NamesTold false set starts order from to table s
+  pub told : NamesTold Services set starts (drop from (take to order)) table s
   pub bound_is : Bound phase set starts order from q
   pub behind : from ≤ to
+  pub within : to ≤ length order
 
 -- between two rounds: the last was made with the first `bound` modules
 pub record Between (phase : Phase) (set starts order packages : List ℕ) (bound : ℕ) (q : Queue) : Type 0 where

@@ -10,7 +10,7 @@ use crate::hash::hash;
 use crate::word::{word_has, word_with};
 use records::bytes::part;
 use records::name::name_of;
-use records::record::{Cursor, Kind, Next};
+use records::record::{Cursor, Kind};
 
 // Bit a.
 fn bit_at(filter: &[u64], a: usize) -> bool
@@ -18,8 +18,7 @@ fn bit_at(filter: &[u64], a: usize) -> bool
     requires a_bound { a < 65536 }
     ensures { result ≡ holds filter.now a }
 {
-    let at = a / 64;
-    word_has(filter[at], a % 64)
+    word_has(filter[a / 64], a % 64)
 }
 
 // Sets bit a.
@@ -37,10 +36,7 @@ fn has_bits(filter: &[u64], h: usize) -> bool
     requires { length filter.now ≡ 1024 }
     ensures { result ≡ has_bits filter.now h }
 {
-    if bit_at(filter, h % 65536) {
-        return bit_at(filter, h / 65536 % 65536);
-    }
-    false
+    bit_at(filter, h % 65536) && bit_at(filter, h / 65536 % 65536)
 }
 
 // Sets both.
@@ -64,16 +60,6 @@ fn mark(filter: &mut [u64], name: &[u8]) -> bool
     was
 }
 
-// Whether one of the two holds.
-fn or(a: bool, b: bool) -> bool
-    ensures { result ≡ (a || b) }
-{
-    if a {
-        return true;
-    }
-    b
-}
-
 // Marks the name in front of each record of this kind of the block. Where it answers false, none of them was marked.
 pub fn mark_names(filter: &mut [u64], block: &[u8], kind: Kind) -> bool
     requires { length filter.old ≡ 1024 }
@@ -82,15 +68,9 @@ pub fn mark_names(filter: &mut [u64], block: &[u8], kind: Kind) -> bool
 {
     let mut c = Cursor { at: 0 };
     let mut met = false;
-    loop {
-        match c.next(block, kind) {
-            Next::Body { start, len, next } => {
-                met = or(met, mark(filter, name_of(part(block, start, len))));
-                c = next;
-            }
-            Next::Nothing => {
-                return met;
-            }
-        }
+    while let Some(span) = c.next(block, kind) {
+        met |= mark(filter, name_of(span.of(block)));
+        c = span.next;
     }
+    met
 }

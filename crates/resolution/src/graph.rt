@@ -9,7 +9,6 @@ ghost use Rattle.resolution.specs.Readability.{Below, edges_of, unnamed_from, Wi
 use crate::configuration::add_read;
 use crate::row::Row;
 use records::bytes::same;
-use records::finder::Found;
 
 // How many words the 512 rows have.
 pub const ROWS: usize = 4608;
@@ -21,16 +20,8 @@ pub fn row_at(g: &[u64], i: usize) -> Row
     ensures { Successors g.now i result.words }
 {
     let at = i * 9;
-    let words = [
-        g[at],
-        g[at + 1],
-        g[at + 2],
-        g[at + 3],
-        g[at + 4],
-        g[at + 5],
-        g[at + 6],
-        g[at + 7],
-    ];
+    let mut words = [0u64; 8];
+    words.copy_from_slice(&g[at..at + 8]);
     Row { words }
 }
 
@@ -39,12 +30,7 @@ pub fn put_row(words: &mut [u64], at: usize, row: Row)
     requires { at + 8 ≤ length words.old }
     ensures { words.new ≡ written words.old at row.words }
 {
-    let x = row.words;
-    let mut k: usize = 0;
-    while k < 8 {
-        words[at + k] = x[k];
-        k += 1;
-    }
+    words[at..at + 8].copy_from_slice(&row.words);
 }
 
 // The edges of row i anew.
@@ -57,35 +43,35 @@ pub fn set_row(g: &mut [u64], i: usize, row: Row)
 }
 
 // The edge from i to what is found: the row of i is lent.
-pub fn set_edge(i: usize, target: Found, rows: &mut [u64])
+pub fn set_edge(i: usize, target: Option<usize>, rows: &mut [u64])
     requires i_bound { i < 512 }
     requires below { Below target }
     requires rows_len { length rows.old ≡ rows_length }
     ensures { WithEdges rows.old (edges_of i (is_at target)) rows.new }
 {
     match target {
-        Found::At(j) => {
+        Some(j) => {
             let at = i * 9;
             let end = at + 8;
             add_read(&mut rows[at..end], j);
         }
-        Found::Nothing => {}
+        None => {}
     }
 }
 
 // The edge of an AR to ALL-UNNAMED: the ninth word of its source's row.
-pub fn set_unnamed(source: Found, target: &[u8], rows: &mut [u64])
+pub fn set_unnamed(source: Option<usize>, target: &[u8], rows: &mut [u64])
     requires below { Below source }
     requires rows_len { length rows.old ≡ rows_length }
     ensures { WithUnnamed rows.old (unnamed_from source target.now) rows.new }
 {
     if same(target, b"ALL-UNNAMED") {
         match source {
-            Found::At(i) => {
+            Some(i) => {
                 let at = i * 9 + 8;
                 rows[at] = 1;
             }
-            Found::Nothing => {}
+            None => {}
         }
     }
 }
@@ -95,11 +81,7 @@ pub fn clear(rows: &mut [u64])
     requires { length rows.old ≡ rows_length }
     ensures { rows.new ≡ replicate rows_length 0 }
 {
-    let mut k: usize = 0;
-    while k < ROWS {
-        rows[k] = 0;
-        k += 1;
-    }
+    rows.fill(0);
 }
 
 // The positions that an edge from m leads to and that out does not hold.
@@ -108,19 +90,7 @@ pub fn lacking(g: &[u64], m: usize, out: Row) -> Row
     requires m_bound { m < 512 }
     ensures { Lacking g.now m out.words result.words }
 {
-    let x = out.words;
-    let at = m * 9;
-    let words = [
-        g[at] & !x[0],
-        g[at + 1] & !x[1],
-        g[at + 2] & !x[2],
-        g[at + 3] & !x[3],
-        g[at + 4] & !x[4],
-        g[at + 5] & !x[5],
-        g[at + 6] & !x[6],
-        g[at + 7] & !x[7],
-    ];
-    Row { words }
+    row_at(g, m).zip_words(out, |edges, marks| edges & !marks)
 }
 
 // There is such a position. False only where there is none.
@@ -128,18 +98,12 @@ pub fn any_lacking(g: &[u64], m: usize, out: Row) -> bool
     requires { length g.now ≡ rows_length }
     ensures { AnyLacking g.now m out.words result }
 {
-    if m < 512 {
-        let x = out.words;
-        let at = m * 9;
-        return (g[at] & !x[0])
-            | (g[at + 1] & !x[1])
-            | (g[at + 2] & !x[2])
-            | (g[at + 3] & !x[3])
-            | (g[at + 4] & !x[4])
-            | (g[at + 5] & !x[5])
-            | (g[at + 6] & !x[6])
-            | (g[at + 7] & !x[7])
-            != 0;
+    if m >= 512 {
+        return false;
     }
-    false
+    let mut lacking = 0;
+    for k in 0..8 {
+        lacking |= g[m * 9 + k] & !out.words[k];
+    }
+    lacking != 0
 }

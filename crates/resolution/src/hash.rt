@@ -78,11 +78,9 @@ fn long_hash(s: &[u8]) -> usize
     let m = (n - 1) / 16;
     let mut a = chunk(s, n - 16) + n;
     let mut b = a;
-    let mut k: usize = 0;
-    while k < m {
+    for k in 0..m {
         a += chunk(s, 16 * k);
         b += a;
-        k += 1;
     }
     b
 }

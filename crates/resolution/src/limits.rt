@@ -2,56 +2,40 @@
 ghost use Rattle.std.specs.Prelude.{◌≤◌, length};
 ghost use Rattle.resolution.specs.Known.{Limited, LimitTold, RootsTold};
 
-use crate::table::Listed;
-use records::bytes::{be16, part};
+use records::bytes::be16;
 use records::name::is_list;
 use records::order::{insert_list, insert_names};
-use records::record::{Cursor, Kind, Next};
+use records::record::{Cursor, Kind};
 
 // Whether the request has an LM.
+#[tactic(auto, using(crate::proofs::limits::Laws::limited_told))]
 pub fn is_limited(request: &[u8]) -> bool
     ensures { Limited request.now result }
 {
     let c = Cursor { at: 0 };
-    match c.next(request, Kind::LimitModules) {
-        Next::Body {
-            start: _,
-            len: _,
-            next: _,
-        } => true,
-        Next::Nothing => false,
-    }
+    c.next(request, Kind::LimitModules).is_some()
 }
 
 // Puts the names of the LM in order into the table, if it has room for them and the LM is a list, as it is where the check takes
-// the request.
-pub fn order_limits(request: &[u8], table: &mut [usize]) -> Listed
+// the request. Returns how many it tells then.
+pub fn order_limits(request: &[u8], table: &mut [usize]) -> Option<usize>
     requires { length request.now ≤ 65535 }
     ensures { LimitTold request.now table.new result }
 {
-    let none = Listed {
-        count: 0,
-        known: false,
-    };
     let c = Cursor { at: 0 };
     match c.next(request, Kind::LimitModules) {
-        Next::Body {
-            start,
-            len,
-            next: _,
-        } => {
-            let b = part(request, start, len);
+        Some(span) => {
+            let b = span.of(request);
             let n = be16(b, 0);
             if table.len() < n {
-                return none;
+                return None;
             }
             if is_list(b) {
-                let count = insert_list(request, start + 2, n, table);
-                return Listed { count, known: true };
+                return Some(insert_list(request, span.start + 2, n, table));
             }
-            none
+            None
         }
-        Next::Nothing => none,
+        None => None,
     }
 }
 

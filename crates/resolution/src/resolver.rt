@@ -1,15 +1,13 @@
 // The queue of resolution over positions in the set, until none waits.
-ghost use Rattle.std.specs.Prelude.{◌≡◌, false, ◌&&◌, not, suc, ◌-◌, ◌≤◌, ◌<◌, eqb, length, get_or, take, drop};
-ghost use Rattle.records.specs.Record.{records};
-ghost use Rattle.resolution.specs.Resolver.{inputs_of, is_one_of, Within, line_at, queued, queued_at, queue_in, advanced_at, handle_at, is_open, is_done, run_at, Ready, Moved};
-ghost use Rattle.resolution.specs.Known.{Tables};
-ghost use Rattle.resolution.specs.Runs.{Running, Ran};
+ghost use Rattle.std.specs.Prelude.{◌≡◌, ◌&&◌, not, eqb};
+ghost use Rattle.resolution.specs.Resolver.{is_open, is_done};
 
 use crate::modules::{end_of, find_split};
+use crate::sources::Sources;
 use crate::wanted::{kind_for, want_record};
-use records::bytes::{head, part};
+use records::bytes::head;
 use records::error::{Input, ModuleError};
-use records::record::{Cursor, Next};
+use records::record::Cursor;
 use records::set::entry;
 
 // What ends the queue.
@@ -33,8 +31,7 @@ pub enum Wanted {
     Refuse(ModuleError),
 }
 
-// An array of 1024 numbers goes with it. Of its first half the positions before head are resolved, in order, and those from there to
-// tail wait; entry 512 + i is 1 where position i is one of them, else 0.
+// How far the queue is: the positions before head are resolved, in order, and those from there to tail wait.
 #[derive(Clone, Copy)]
 pub struct Queue {
     pub head: usize,
@@ -56,245 +53,161 @@ pub struct Phase {
     pub known: bool,
 }
 
-// Whether position i is in the queue: its mark says so.
-pub fn is_queued(order: &[usize], q: Queue, count: usize, i: usize) -> bool
-    requires ready { Ready count order.now q }
-    requires i_lt_count { i < count }
-    ensures { result ≡ is_one_of i (take q.tail order.now) }
-{
-    order[512 + i] == 1
-}
-
-// Position i comes to the end and is marked, unless it is there.
-fn push(order: &mut [usize], q: Queue, count: usize, i: usize) -> Queue
-    requires ready { Ready count order.old q }
-    requires i_lt_count { i < count }
-    ensures { Moved count order.new result (queued_at i (line_at order.old q)) }
-{
-    if is_queued(order, q, count, i) {
-        return q;
-    }
-    let at = q.tail;
-    order[at] = i;
-    order[512 + i] = 1;
-    let head = q.head;
-    let halt = q.halt;
-    Queue {
-        head,
-        tail: at + 1,
-        halt,
-    }
-}
-
-// A name is queued, as is wanted; after a halt nothing is.
-pub fn enqueue(order: &mut [usize], q: Queue, count: usize, wanted: Wanted) -> Queue
-    requires ready { Ready count order.old q }
-    requires within { Within count wanted }
-    ensures { Moved count order.new result (queued wanted (line_at order.old q)) }
-{
-    let halt = q.halt;
-    match halt {
-        Halt::Open => match wanted {
-            Wanted::Pass => q,
-            Wanted::Add(i) => push(order, q, count, i),
-            Wanted::Stop(e) => Queue {
-                head: q.head,
-                tail: q.tail,
-                halt: Halt::Stop(e),
-            },
-            Wanted::Refuse(e) => Queue {
-                head: q.head,
-                tail: q.tail,
-                halt: Halt::Refused(e),
-            },
-        },
-        Halt::Stop(_) => q,
-        Halt::Refused(_) => q,
-    }
-}
-
 // Nothing ends the queue.
+#[tactic(auto, using(crate::proofs::resolver::Turns::done_laws))]
 pub fn is_done(q: Queue) -> bool
     ensures { result ≡ is_done q.halt }
 {
-    let halt = q.halt;
-    match halt {
-        Halt::Open => true,
-        Halt::Stop(_) => false,
-        Halt::Refused(_) => false,
-    }
-}
-
-// The names that the records of source from `at` on queue, until something ends the queue.
-pub fn queue_records(
-    set: &[u8],
-    request: &[u8],
-    starts: &[usize],
-    old: &[usize],
-    phase: Phase,
-    index: &[usize],
-    names: &[usize],
-    needed: &[usize],
-    input: Input,
-    source: &[u8],
-    at: usize,
-    order: &mut [usize],
-    q: Queue,
-) -> Queue
-    requires tables { Tables set.now request.now starts.now old.now phase index.now names.now needed.now }
-    requires ready { Ready phase.count order.old q }
-    requires source_len_bound { length source.now ≤ 65535 }
-    ensures { Moved phase.count order.new result (queue_in (inputs_of set.now request.now starts.now old.now phase) input at (records (drop at source.now)) (line_at order.old q)) }
-{
-    let kind = kind_for(input);
-    let mut c = Cursor { at };
-    let mut line = q;
-    while is_done(line) {
-        match c.next(source, kind) {
-            Next::Body { start, len, next } => {
-                let wanted = want_record(
-                    set,
-                    request,
-                    starts,
-                    old,
-                    phase,
-                    index,
-                    names,
-                    needed,
-                    input,
-                    part(source, start, len),
-                    start,
-                );
-                line = enqueue(order, line, phase.count, wanted);
-                c = next;
-            }
-            Next::Nothing => {
-                return line;
-            }
-        }
-    }
-    line
-}
-
-// The module at the head is resolved, and its requirements are queued.
-fn advance(
-    set: &[u8],
-    request: &[u8],
-    starts: &[usize],
-    old: &[usize],
-    phase: Phase,
-    index: &[usize],
-    names: &[usize],
-    needed: &[usize],
-    order: &mut [usize],
-    q: Queue,
-) -> Queue
-    requires tables { Tables set.now request.now starts.now old.now phase index.now names.now needed.now }
-    requires set_len_bound { length set.now ≤ 65535 }
-    requires ready { Ready phase.count order.old q }
-    requires head_lt_tail { q.head < q.tail }
-    ensures { Moved phase.count order.new result (advanced_at (inputs_of set.now request.now starts.now old.now phase) (line_at order.old q) (get_or order.old q.head 0)) }
-{
-    let at = q.head;
-    let p = order[at];
-    let source = head(set, end_of(starts, p));
-    let halt = q.halt;
-    let next = Queue {
-        head: at + 1,
-        tail: q.tail,
-        halt,
-    };
-    queue_records(
-        set,
-        request,
-        starts,
-        old,
-        phase,
-        index,
-        names,
-        needed,
-        Input::Set,
-        source,
-        entry(starts, p),
-        order,
-        next,
-    )
-}
-
-// The module at the head: its packages are tested first.
-fn handle(
-    set: &[u8],
-    request: &[u8],
-    starts: &[usize],
-    old: &[usize],
-    phase: Phase,
-    index: &[usize],
-    names: &[usize],
-    needed: &[usize],
-    order: &mut [usize],
-    packages: &mut [u64],
-    q: Queue,
-) -> Queue
-    requires tables { Tables set.now request.now starts.now old.now phase index.now names.now needed.now }
-    requires running { Running phase.count set.now starts.now order.old packages.old q }
-    requires head_lt_tail { q.head < q.tail }
-    ensures { Ran phase.count set.now starts.now order.new packages.new result (handle_at (inputs_of set.now request.now starts.now old.now phase) (line_at order.old q)) }
-{
-    let at = q.head;
-    let p = order[at];
-    match find_split(set, starts, order, at, packages, p) {
-        Halt::Open => advance(
-            set, request, starts, old, phase, index, names, needed, order, q,
-        ),
-        Halt::Stop(e) => Queue {
-            head: at,
-            tail: q.tail,
-            halt: Halt::Refused(e),
-        },
-        Halt::Refused(e) => Queue {
-            head: at,
-            tail: q.tail,
-            halt: Halt::Refused(e),
-        },
-    }
+    matches!(q.halt, Halt::Open)
 }
 
 // There is no refusal, and a module waits.
+#[tactic(auto, using(crate::proofs::resolver::Turns::on_laws))]
 fn goes_on(q: Queue) -> bool
     ensures { result ≡ (is_open q.halt && not (eqb q.head q.tail)) }
 {
-    let halt = q.halt;
-    match halt {
-        Halt::Open => q.head != q.tail,
-        Halt::Stop(_) => q.head != q.tail,
-        Halt::Refused(_) => false,
-    }
+    !matches!(q.halt, Halt::Refused(_)) && q.head != q.tail
 }
 
-// The modules that wait are handled, until none is left or there is a refusal.
-pub fn run(
-    set: &[u8],
-    request: &[u8],
-    starts: &[usize],
-    old: &[usize],
-    phase: Phase,
-    index: &[usize],
-    names: &[usize],
-    needed: &[usize],
-    order: &mut [usize],
-    packages: &mut [u64],
-    q: Queue,
-) -> Queue
-    requires tables { Tables set.now request.now starts.now old.now phase index.now names.now needed.now }
-    requires running { Running phase.count set.now starts.now order.old packages.old q }
-    ensures ran { Ran phase.count set.now starts.now order.new packages.new result (run_at (inputs_of set.now request.now starts.now old.now phase) (suc phase.count - q.head) (line_at order.old q)) }
-    ensures tail_value { (is_open result.halt && not (eqb result.head result.tail)) ≡ false }
-{
-    let mut line = q;
-    while goes_on(line) {
-        line = handle(
-            set, request, starts, old, phase, index, names, needed, order, packages, line,
-        );
+// The queue with its array: of its first half the entries before the tail are positions of modules, in order; entry 512 + i is 1 where
+// position i is one of them, else 0.
+#[derive(Drop)]
+pub struct Resolver {
+    pub order: [usize; 1024],
+    pub queue: Queue,
+}
+
+impl Resolver {
+    ghost use Rattle.std.specs.Prelude.{◌≡◌, false, ◌&&◌, not, suc, ◌-◌, ◌≤◌, ◌<◌, eqb, length, get_or, take, drop, replicate};
+    ghost use Rattle.resolution.specs.declared.resolver.Halt.TheVariants as Halt;
+    ghost use Rattle.records.specs.Record.{records};
+    ghost use Rattle.resolution.specs.Resolver.{is_one_of, Within, line_at, queued, queued_at, queue_in, advanced_at, handle_at, is_open, run_at, Ready, Moved};
+    ghost use Rattle.resolution.specs.Sources.{inputs_in};
+    ghost use Rattle.resolution.specs.Runs.{Running, Ran};
+
+    // Nothing is resolved, and none waits.
+    pub fn new() -> Resolver
+        ensures { result ≡ record { order = replicate 1024 0; queue = record { head = 0; tail = 0; halt = Halt.Open } } }
+    {
+        Resolver {
+            order: [0usize; 1024],
+            queue: Queue {
+                head: 0,
+                tail: 0,
+                halt: Halt::Open,
+            },
+        }
     }
-    line
+
+    // Whether position i is in the queue: its mark says so.
+    #[tactic(auto, using(crate::proofs::resolver::Ends::queued_laws))]
+    pub fn is_queued(&self, count: usize, i: usize) -> bool
+        requires ready { Ready count self.now.order self.now.queue }
+        requires i_lt_count { i < count }
+        ensures { result ≡ is_one_of i (take self.now.queue.tail self.now.order) }
+    {
+        self.order[512 + i] == 1
+    }
+
+    // Position i comes to the end and is marked, unless it is there.
+    #[tactic(auto, using(crate::proofs::resolver::Ends::push_laws))]
+    fn push(&mut self, count: usize, i: usize)
+        requires ready { Ready count self.old.order self.old.queue }
+        requires i_lt_count { i < count }
+        ensures { Moved count self.new.order self.new.queue (queued_at i (line_at self.old.order self.old.queue)) }
+    {
+        if self.is_queued(count, i) {
+            return;
+        }
+        self.order[self.queue.tail] = i;
+        self.order[512 + i] = 1;
+        self.queue.tail += 1;
+    }
+
+    // A name is queued, as is wanted; after a halt nothing is.
+    #[tactic(auto, using(crate::proofs::resolver::Ends::enqueue_laws))]
+    pub fn enqueue(&mut self, count: usize, wanted: Wanted)
+        requires ready { Ready count self.old.order self.old.queue }
+        requires within { Within count wanted }
+        ensures { Moved count self.new.order self.new.queue (queued wanted (line_at self.old.order self.old.queue)) }
+    {
+        if !is_done(self.queue) {
+            return;
+        }
+        match wanted {
+            Wanted::Pass => {}
+            Wanted::Add(i) => self.push(count, i),
+            Wanted::Stop(e) => {
+                self.queue.halt = Halt::Stop(e);
+            }
+            Wanted::Refuse(e) => {
+                self.queue.halt = Halt::Refused(e);
+            }
+        }
+    }
+
+    // The names that the records of source from `at` on queue, until something ends the queue.
+    #[tactic(auto, using(crate::proofs::resolver::Records::records_laws))]
+    pub fn queue_records(&mut self, sources: &Sources, input: Input, source: &[u8], at: usize)
+        requires ready { Ready sources.now.phase.count self.old.order self.old.queue }
+        requires source_len_bound { length source.now ≤ 65535 }
+        ensures { Moved sources.now.phase.count self.new.order self.new.queue (queue_in (inputs_in sources.now) input at (records (drop at source.now)) (line_at self.old.order self.old.queue)) }
+    {
+        let kind = kind_for(input);
+        let mut c = Cursor { at };
+        while let Some(span) = c.next(source, kind) {
+            if !is_done(self.queue) {
+                return;
+            }
+            let wanted = want_record(sources, input, span.of(source), span.start);
+            self.enqueue(sources.phase.count, wanted);
+            c = span.next;
+        }
+    }
+
+    // The module at the head is resolved, and its requirements are queued.
+    #[tactic(auto, using(crate::proofs::resolver::Turns::advance_laws))]
+    fn advance(&mut self, sources: &Sources)
+        requires set_len_bound { length sources.now.set.now ≤ 65535 }
+        requires ready { Ready sources.now.phase.count self.old.order self.old.queue }
+        requires head_lt_tail { self.old.queue.head < self.old.queue.tail }
+        ensures { Moved sources.now.phase.count self.new.order self.new.queue (advanced_at (inputs_in sources.now) (line_at self.old.order self.old.queue) (get_or self.old.order self.old.queue.head 0)) }
+    {
+        let p = self.order[self.queue.head];
+        let source = head(sources.set, end_of(sources.starts, p));
+        self.queue.head += 1;
+        self.queue_records(sources, Input::Set, source, entry(sources.starts, p));
+    }
+
+    // The module at the head: its packages are tested first.
+    #[tactic(auto, using(crate::proofs::resolver::Turns::handle_laws))]
+    fn handle(&mut self, sources: &Sources, packages: &mut [u64])
+        requires running { Running sources.now.phase.count sources.now.set.now sources.now.starts.now self.old.order packages.old self.old.queue }
+        requires head_lt_tail { self.old.queue.head < self.old.queue.tail }
+        ensures { Ran sources.now.phase.count sources.now.set.now sources.now.starts.now self.new.order packages.new self.new.queue (handle_at (inputs_in sources.now) (line_at self.old.order self.old.queue)) }
+    {
+        let at = self.queue.head;
+        let p = self.order[at];
+        match find_split(sources, &self.order[..at], packages, p) {
+            Halt::Open => self.advance(sources),
+            Halt::Stop(e) => {
+                self.queue.halt = Halt::Refused(e);
+            }
+            Halt::Refused(e) => {
+                self.queue.halt = Halt::Refused(e);
+            }
+        }
+    }
+
+    // The modules that wait are handled, until none is left or there is a refusal.
+    #[tactic(auto, using(crate::proofs::resolver::Runs::run_laws))]
+    pub fn run(&mut self, sources: &Sources, packages: &mut [u64])
+        requires running { Running sources.now.phase.count sources.now.set.now sources.now.starts.now self.old.order packages.old self.old.queue }
+        ensures ran { Ran sources.now.phase.count sources.now.set.now sources.now.starts.now self.new.order packages.new self.new.queue (run_at (inputs_in sources.now) (suc sources.now.phase.count - self.old.queue.head) (line_at self.old.order self.old.queue)) }
+        ensures tail_value { (is_open self.new.queue.halt && not (eqb self.new.queue.head self.new.queue.tail)) ≡ false }
+    {
+        while goes_on(self.queue) {
+            self.handle(sources, packages);
+        }
+    }
 }

@@ -8,24 +8,26 @@ use records::bytes::{head, part};
 use records::descriptor::{is_static, required};
 use records::name::name_of;
 use records::order::insert;
-use records::record::{Cursor, Kind, Next};
+use records::record::{Cursor, Kind};
 use records::set::entry;
 
-// How many names a table tells, and whether they are all that were to be put there.
+// What the records of modules tell: the services that they use, or what they require and is not static.
 #[derive(Clone, Copy)]
-pub struct Listed {
-    pub count: usize,
-    pub known: bool,
+pub enum Told {
+    Services,
+    Requirements,
 }
 
-// The records that tell the names.
-fn kind_of(needed: bool) -> Kind
-    ensures { result ≡ kind_of needed }
-{
-    if needed {
-        return Kind::Requires;
+impl Told {
+    // The kind of the records that tell the names.
+    fn kind(self) -> Kind
+        ensures { result ≡ kind_of self }
+    {
+        match self {
+            Told::Services => Kind::Uses,
+            Told::Requirements => Kind::Requires,
+        }
     }
-    Kind::Uses
 }
 
 // Puts the name that the record with its body at `start` tells where it belongs among the first `count`: the service of a US, the
@@ -35,7 +37,7 @@ fn put_name(
     to: usize,
     start: usize,
     len: usize,
-    needed: bool,
+    told: Told,
     table: &mut [usize],
     count: usize,
 ) -> usize
@@ -43,88 +45,69 @@ fn put_name(
     requires start_bound { start ≤ 65535 }
     requires count_in_bounds { count < length table.old }
     requires table_value { is_ordered (map (name_in set.now) (take count table.old)) ≡ true }
-    ensures { NamePut needed set.now (take len (drop start (take to set.now))) table.old count table.new result }
+    ensures { NamePut told set.now (take len (drop start (take to set.now))) table.old count table.new result }
 {
     let body = part(head(set, to), start, len);
-    if needed {
-        if is_static(body) {
-            return count;
+    match told {
+        Told::Services => {
+            let name = name_of(body);
+            insert(set, table, count, (start + 1) * 65536 + name.len())
         }
-        let name = required(body);
-        return insert(set, table, count, (start + 3) * 65536 + name.len());
+        Told::Requirements => {
+            if is_static(body) {
+                return count;
+            }
+            let name = required(body);
+            insert(set, table, count, (start + 3) * 65536 + name.len())
+        }
     }
-    let name = name_of(body);
-    insert(set, table, count, (start + 1) * 65536 + name.len())
 }
 
-// Puts the names that the records of the set from `from` up to `to` tell in order into the table, as far as it has room.
+// Puts the names that the records of the set from `from` up to `to` tell in order among the first `before` of the table. Returns how many
+// it tells then; None where it has no room for all.
 fn add_names(
     set: &[u8],
     from: usize,
     to: usize,
-    needed: bool,
+    told: Told,
     table: &mut [usize],
-    listed: Listed,
-) -> Listed
+    before: usize,
+) -> Option<usize>
     requires set_len_bound { length set.now ≤ 65535 }
-    requires count_in_bounds { listed.count ≤ length table.old }
-    requires table_value { is_ordered (map (name_in set.now) (take listed.count table.old)) ≡ true }
-    ensures { NamesAdded needed set.now (drop from (take to set.now)) table.old listed table.new result }
+    requires count_in_bounds { before ≤ length table.old }
+    requires table_value { is_ordered (map (name_in set.now) (take before table.old)) ≡ true }
+    ensures { NamesAdded told set.now (drop from (take to set.now)) table.old before table.new result }
 {
     let source = head(set, to);
-    let kind = kind_of(needed);
+    let kind = told.kind();
     let mut c = Cursor { at: from };
-    let mut count = listed.count;
-    loop {
-        match c.next(source, kind) {
-            Next::Body { start, len, next } => {
-                if table.len() <= count {
-                    return Listed {
-                        count,
-                        known: false,
-                    };
-                }
-                count = put_name(set, to, start, len, needed, table, count);
-                c = next;
-            }
-            Next::Nothing => {
-                let known = listed.known;
-                return Listed { count, known };
-            }
+    let mut count = before;
+    while let Some(span) = c.next(source, kind) {
+        if table.len() <= count {
+            return None;
         }
+        count = put_name(set, to, span.start, span.len, told, table, count);
+        c = span.next;
     }
+    Some(count)
 }
 
-// Puts the names that the modules from number `from` to `to` of the order tell in order into the table, as far as it has room.
+// Puts the names that the modules at the positions tell in order into the table. Returns how many it tells; None where it has no room
+// for all.
+#[tactic(auto, using(crate::proofs::table::Laws::order_laws))]
 pub fn order_names(
     set: &[u8],
     starts: &[usize],
-    order: &[usize],
-    from: usize,
-    to: usize,
-    needed: bool,
+    positions: &[usize],
+    told: Told,
     table: &mut [usize],
-) -> Listed
+) -> Option<usize>
     requires set_len_bound { length set.now ≤ 65535 }
-    requires to_in_bounds { to ≤ length order.now }
-    ensures { NamesTold needed set.now starts.now order.now from to table.new result }
+    ensures { NamesTold told set.now starts.now positions.now table.new result }
 {
-    let mut listed = Listed {
-        count: 0,
-        known: true,
-    };
-    let mut k = from;
-    while k < to {
-        let i = order[k];
-        listed = add_names(
-            set,
-            entry(starts, i),
-            end_of(starts, i),
-            needed,
-            table,
-            listed,
-        );
-        k += 1;
+    let mut count = 0;
+    for &i in positions {
+        count = add_names(set, entry(starts, i), end_of(starts, i), told, table, count)?;
     }
-    listed
+    Some(count)
 }

@@ -3,16 +3,16 @@ ghost use Rattle.std.specs.Prelude.{◌≡◌, true, false, ◌≤◌};
 ghost use Rattle.records.specs.Descriptor.{requirement_of};
 ghost use Rattle.records.specs.Request.{Request, request_of, is_permitted};
 ghost use Rattle.resolution.specs.Resolution.{leads as leadsTo};
-ghost use Rattle.resolution.specs.Resolver.{inputs_of, is_met_before, want as wantOf, want_record, want_unfound, kind_for, Within};
-ghost use Rattle.resolution.specs.Known.{Limits, Met, Tables};
+ghost use Rattle.resolution.specs.Resolver.{is_met_before, want as wantOf, want_record, want_unfound, kind_for, Within};
+ghost use Rattle.resolution.specs.Sources.{inputs_in};
 
 use crate::modules::is_met_before;
-use crate::resolver::{Phase, Wanted};
-use crate::row::{Row, has};
+use crate::resolver::Wanted;
+use crate::row::Row;
+use crate::sources::Sources;
 use records::bytes::same;
 use records::descriptor::{is_static, required};
 use records::error::{Input, ModuleError};
-use records::finder::Found;
 use records::name::name_of;
 use records::order::contains;
 use records::record::Kind;
@@ -20,72 +20,51 @@ use records::request::is_permitted;
 use records::sorted::find_in;
 
 // Whether the request permits an absent name. Where that is known, `names` tells the names of its LM in order.
-fn permits(request: &[u8], phase: Phase, names: &[usize], name: &[u8]) -> bool
-    requires limits { Limits request.now phase names.now }
-    requires in_round_value { phase.in_round ≡ false }
-    ensures { result ≡ is_permitted (request_of request.now) name.now }
+#[tactic(auto, using(crate::proofs::wanted::Laws::permits_laws))]
+fn permits(sources: &Sources, name: &[u8]) -> bool
+    requires { sources.now.phase.in_round ≡ false }
+    ensures { result ≡ is_permitted (request_of sources.now.request.now) name.now }
 {
-    if phase.limited {
-        if phase.known {
-            if same(name, b"java.base") {
-                return true;
-            }
-            return contains(request, names, names.len(), name);
-        }
-        return is_permitted(request, name);
+    if !sources.phase.limited {
+        return true;
     }
-    true
+    if sources.phase.known {
+        let names = sources.names;
+        return same(name, b"java.base") || contains(sources.request, names, names.len(), name);
+    }
+    is_permitted(sources.request, name)
 }
 
 // Whether an absent name was met before the rounds. Where that is known, `names` tells the roots in order, and `needed` the names
 // that the modules resolved before the rounds require and that are not static.
-fn is_met(
-    set: &[u8],
-    request: &[u8],
-    starts: &[usize],
-    old: &[usize],
-    phase: Phase,
-    names: &[usize],
-    needed: &[usize],
-    name: &[u8],
-) -> bool
-    requires met { Met set.now request.now starts.now old.now phase names.now needed.now }
-    requires in_round_value { phase.in_round ≡ true }
-    ensures { result ≡ is_met_before (inputs_of set.now request.now starts.now old.now phase) name.now }
+#[tactic(auto, using(crate::proofs::wanted::Laws::met_laws))]
+fn is_met(sources: &Sources, name: &[u8]) -> bool
+    requires { sources.now.phase.in_round ≡ true }
+    ensures { result ≡ is_met_before (inputs_in sources.now) name.now }
 {
-    if phase.known {
-        if contains(request, names, names.len(), name) {
-            return true;
-        }
-        return contains(set, needed, needed.len(), name);
+    if sources.phase.known {
+        let names = sources.names;
+        let needed = sources.needed;
+        return contains(sources.request, names, names.len(), name)
+            || contains(sources.set, needed, needed.len(), name);
     }
-    is_met_before(set, request, starts, old, phase.before, name)
+    let before = sources.phase.before.min(sources.old.len());
+    is_met_before(sources, &sources.old[..before], name)
 }
 
 // What becomes of an absent name that is not static.
-fn want_absent(
-    set: &[u8],
-    request: &[u8],
-    starts: &[usize],
-    old: &[usize],
-    phase: Phase,
-    names: &[usize],
-    needed: &[usize],
-    name: &[u8],
-    error: ModuleError,
-) -> Wanted
-    requires limits { Limits request.now phase names.now }
-    requires met { Met set.now request.now starts.now old.now phase names.now needed.now }
-    ensures value { result ≡ want_unfound (inputs_of set.now request.now starts.now old.now phase) name.now error }
-    ensures within { Within phase.count result }
+#[tactic(auto, using(crate::proofs::wanted::Laws::absent_laws))]
+fn want_absent(sources: &Sources, name: &[u8], error: ModuleError) -> Wanted
+    ensures value { result ≡ want_unfound (inputs_in sources.now) name.now error }
+    ensures within { Within sources.now.phase.count result }
 {
-    if phase.in_round {
-        if is_met(set, request, starts, old, phase, names, needed, name) {
+    if sources.phase.in_round {
+        if is_met(sources, name) {
             return Wanted::Pass;
         }
         return Wanted::Refuse(error);
     }
-    if permits(request, phase, names, name) {
+    if permits(sources, name) {
         if same(name, b"java.base") {
             return Wanted::Stop(ModuleError::JavaBaseNotFound);
         }
@@ -95,103 +74,70 @@ fn want_absent(
 }
 
 // What becomes of a name, and the refusal where it is absent.
-pub fn want(
-    set: &[u8],
-    request: &[u8],
-    starts: &[usize],
-    old: &[usize],
-    phase: Phase,
-    index: &[usize],
-    names: &[usize],
-    needed: &[usize],
-    name: &[u8],
-    optional: bool,
-    error: ModuleError,
-) -> Wanted
-    requires { Tables set.now request.now starts.now old.now phase index.now names.now needed.now }
-    ensures value { result ≡ wantOf (inputs_of set.now request.now starts.now old.now phase) name.now optional error }
-    ensures within { Within phase.count result }
+#[tactic(auto, using(crate::proofs::wanted::Laws::want_laws))]
+pub fn want(sources: &Sources, name: &[u8], optional: bool, error: ModuleError) -> Wanted
+    ensures value { result ≡ wantOf (inputs_in sources.now) name.now optional error }
+    ensures within { Within sources.now.phase.count result }
 {
-    match find_in(set, starts, phase.count, index, name) {
-        Found::At(i) => {
-            let words = phase.permitted;
-            if has(Row { words }, i) {
+    match find_in(
+        sources.set,
+        sources.starts,
+        sources.phase.count,
+        sources.index,
+        name,
+    ) {
+        Some(i) => {
+            let words = sources.phase.permitted;
+            if (Row { words }).has(i) {
                 return Wanted::Add(i);
             }
             Wanted::Pass
         }
-        Found::Nothing => {
+        None => {
             if optional {
                 return Wanted::Pass;
             }
-            want_absent(set, request, starts, old, phase, names, needed, name, error)
+            want_absent(sources, name, error)
         }
     }
 }
 
 // Whether the RQ with this body leads to its module: it is not static, or the request has an ST, as `statics` says.
+#[tactic(auto, using(crate::proofs::wanted::Laws::leads_laws))]
 fn leads(statics: bool, body: &[u8]) -> bool
     ensures { (rq : Request) → statics ≡ rq.has_static → result ≡ leadsTo rq (requirement_of body.now) }
 {
-    if is_static(body) {
-        return statics;
-    }
-    true
+    !is_static(body) || statics
 }
 
 // What becomes of the name in the record with this body at start: of the set an RQ, of the request an RT. One that does not lead
 // is passed over.
-pub fn want_record(
-    set: &[u8],
-    request: &[u8],
-    starts: &[usize],
-    old: &[usize],
-    phase: Phase,
-    index: &[usize],
-    names: &[usize],
-    needed: &[usize],
-    input: Input,
-    body: &[u8],
-    start: usize,
-) -> Wanted
-    requires tables { Tables set.now request.now starts.now old.now phase index.now names.now needed.now }
+#[tactic(auto, using(crate::proofs::wanted::Laws::record_laws))]
+pub fn want_record(sources: &Sources, input: Input, body: &[u8], start: usize) -> Wanted
     requires start_bound { start ≤ 65535 }
-    ensures value { result ≡ want_record (inputs_of set.now request.now starts.now old.now phase) input body.now start }
-    ensures within { Within phase.count result }
+    ensures value { result ≡ want_record (inputs_in sources.now) input body.now start }
+    ensures within { Within sources.now.phase.count result }
 {
     match input {
         Input::Set => {
-            if leads(phase.statics, body) {
+            if leads(sources.phase.statics, body) {
                 let name = required(body);
                 let error = ModuleError::ModuleNotFound(Input::Set, start + 3, name.len());
-                let wanted = want(
-                    set,
-                    request,
-                    starts,
-                    old,
-                    phase,
-                    index,
-                    names,
-                    needed,
-                    name,
-                    is_static(body),
-                    error,
-                );
-                return wanted;
+                return want(sources, name, is_static(body), error);
             }
             Wanted::Pass
         }
         Input::Request => {
             let name = name_of(body);
             let error = ModuleError::ModuleNotFound(Input::Request, start + 1, name.len());
-            want(
-                set, request, starts, old, phase, index, names, needed, name, false, error,
-            )
+            want(sources, name, false, error)
         }
         Input::Packages => Wanted::Pass,
     }
 }
 
+// The kind of the records that name modules.
+#[tactic(auto, unfolding(crate::specs::Resolver::kind_for))]
 pub fn kind_for(input: Input) -> Kind
     ensures { result ≡ kind_for input }
 {

@@ -1,7 +1,7 @@
 // The bits of a word, one by one.
-ghost use Rattle.std.specs.Prelude.{◌≡◌, ◌||◌, ℕ, ◌^◌, ◌<◌, eqb};
+ghost use Rattle.std.specs.Prelude.{◌≡◌, ◌||◌, ℕ, ◌^◌, ◌<◌, eqb, MatchOption};
 ghost use Rattle.std.specs.Int.Bits.{bit_or};
-ghost use Rattle.resolution.specs.Row.{bit, FirstFrom};
+ghost use Rattle.resolution.specs.Row.{bit, NoneFrom, First};
 
 // Bit b of w.
 pub fn word_has(w: u64, b: usize) -> bool
@@ -20,14 +20,11 @@ pub fn word_with(w: u64, b: usize) -> u64
     w | (1u64 << b)
 }
 
-// The position of the lowest one of w from bit b on, 64 where there is none.
-pub fn next_one(w: u64, b: usize) -> usize
+// The position of the lowest one of w from bit b on, if there is one.
+pub fn next_one(w: u64, b: usize) -> Option<usize>
     requires { b < 64 }
-    ensures { FirstFrom (bit w) b 64 result }
+    ensures { MatchOption result (NoneFrom (bit w) b 64) (First (bit w) b 64) }
 {
-    let r = b + u64::trailing_zeros(w >> b) as usize;
-    if 64 <= r {
-        return 64;
-    }
-    r
+    let r = b + (w >> b).trailing_zeros() as usize;
+    if r < 64 { Some(r) } else { None }
 }

@@ -11,8 +11,8 @@ use Rattle.records.specs.declared.error.ModuleError.{ModuleError}
 use Rattle.records.specs.declared.error.ModuleError.TheVariants.{Malformed, TooLarge, Repeated, OutputTooShort, ModuleNotFound, JavaBaseNotFound, SplitPackage, DescriptorParseError, InvalidAutomaticModuleName, InvalidModuleName}
 use Rattle.records.specs.contracts.error.ModuleError.{the_type}
 use Rattle.resolution.specs.Absent.{part_of, absent_in, absent_name}
-use Rattle.resolution.specs.declared.resolve.Outcome.{Outcome}
-use Rattle.resolution.specs.declared.resolve.Outcome.TheVariants.{Accepted, Refused}
+use Rattle.resolution.specs.Resolve.{Outcome}
+use Rattle.std.specs.Prelude.{Ok, Err}
 
 -- all refusals but 5
 abbrev pub others : List ℕ
@@ -32,11 +32,11 @@ not-absent s q InvalidAutomaticModuleName h = refl
 not-absent s q InvalidModuleName h = refl
 
 module _ (s q : List ℕ) (o : Outcome) (r : List ℕ) where
-  pub absent-accepted : r ≡ take 0 (drop 0 s) → o ≡ Accepted → r ≡ absent_name s q o
+  pub absent-accepted : r ≡ take 0 (drop 0 s) → o ≡ Ok tt → r ≡ absent_name s q o
   unfolding absent_name
   absent-accepted e h = e ∙ sym (rw h)
 
-  module _ (x : ModuleError) (h : o ≡ Refused x) where
+  module _ (x : ModuleError) (h : o ≡ Err x) where
     pub absent-other : r ≡ take 0 (drop 0 s) → OneOf others (tag_of the_type x) → r ≡ absent_name s q o
     unfolding absent_name
     absent-other e t = e ∙ sym (rw (h, not-absent s q x t))

@@ -1,8 +1,8 @@
 -- The words of a configuration: the three tests of their bits, and one row with a position more.
-use mathlib.Core.Path.{◌≡◌, refl, sym, ap, ◌∙◌}
+use mathlib.Core.Path.{◌≡◌, sym, ap, ◌∙◌}
 use mathlib.Core.Bool.{Bool, true, false, ◌&&◌, ◌||◌, and-false, cond}
-use mathlib.Core.List.{List, [], ◌∷◌}
-use Prim.Native.Nat.{ℕ, zero, suc, ◌+◌, ◌*◌, ◌/◌, ◌%◌, ◌^◌, ◌≤◌, ◌<◌}
+use mathlib.Core.List.{List}
+use Prim.Native.Nat.{ℕ, ◌+◌, ◌*◌, ◌/◌, ◌%◌, ◌^◌, ◌≤◌, ◌<◌}
 use native.Mathlib.Omega.{arith}
 use lib.Bits.{bit_or}
 use lib.Dec.{eqb, ltb}
@@ -18,10 +18,6 @@ use Rattle.resolution.proofs.row.Bits.{bit-zero, bit-or, bit-pow}
 use Rattle.resolution.proofs.row.Counts.{count_same}
 use Rattle.resolution.proofs.row.Laws.{holds-out, holds-added}
 use Rattle.resolution.proofs.graph.Edges.{edge-is, edge-past}
-
--- a word that is not there is 0
-pub no_word : (ws : List ℕ) (at : ℕ) → length ws ≤ at → 0 ≡ get_or ws at 0
-no_word ws at l = sym (get_or-eq_default ws 0 {n = at} l)
 
 -- past the first n elements there is none
 pub take_past : (n : ℕ) (l : List ℕ) (i : ℕ) → n ≤ i → get_or (take n l) i 0 ≡ 0
@@ -41,8 +37,8 @@ pub contains_in : (ws : List ℕ) (i w : ℕ) (r : Bool) → i < 512 → w ≡ g
 unfolding member_bit holds
 contains_in ws i w r l ew er = er ∙ ap (λ (x : ℕ). bit x (i % 64)) (ew ∙ sym (member-word ws (i / 64) (omega arith)))
 
-pub contains-out : (ws : List ℕ) (i : ℕ) → 512 ≤ i → false ≡ member_bit ws i
-contains-out ws i l = sym (member-none ws i l)
+pub contains-out : (ws : List ℕ) (i : ℕ) → 512 ≤ i → ltb i 512 ≡ member_bit ws i
+contains-out ws i l = le-ltb i 512 l ∙ sym (member-none ws i l)
 
 pub ruleset contains-laws = (contains_in, contains-out)
 
@@ -69,54 +65,38 @@ unfolding edge_bit
 reads_in ws i j w r l m ew er =
     er ∙ ap (λ (x : ℕ). bit x (j % 64)) (ew ∙ sym (row_word ws (i * 9 + j / 64) (omega arith))) ∙ sym (edge-is (row_words ws) i j m)
 
-pub reads-source : (ws : List ℕ) (i j : ℕ) → 512 ≤ i → false ≡ edge_bit ws i j
-reads-source ws i j l = sym (edge_none ws i j l)
+pub reads-source : (ws : List ℕ) (i j : ℕ) (r : Bool) → r ≡ ltb i 512 → 512 ≤ i → r ≡ edge_bit ws i j
+reads-source ws i j r e l = e ∙ le-ltb i 512 l ∙ sym (edge_none ws i j l)
 
 pub reads-target : (ws : List ℕ) (i j : ℕ) → 512 ≤ j → false ≡ edge_bit ws i j
 unfolding edge_bit
 reads-target ws i j l = sym (edge-past (row_words ws) i j l)
 
-pub ruleset reads-laws = (reads_in, reads-source, reads-target)
+pub reads-past : (ws : List ℕ) (i j : ℕ) (r : Bool) → r ≡ ltb j 512 → 512 ≤ j → r ≡ edge_bit ws i j
+reads-past ws i j r e l = e ∙ le-ltb j 512 l ∙ reads-target ws i j l
+
+pub ruleset reads-laws = (reads_in, reads-source, reads-past)
 
 pub unnamed_in : (ws : List ℕ) (i w : ℕ) (r : Bool) → i < 512 → w ≡ get_or ws (8 + (i * 9 + 8)) 0 → r ≡ bit w 0 → r ≡ unnamed_bit ws i
 unfolding unnamed_bit unnamed_edge ninth
 unnamed_in ws i w r l ew er = er ∙ ap (λ (x : ℕ). bit x 0) (ew ∙ sym (row_word ws (i * 9 + 8) (omega arith)))
 
-pub unnamed-out : (ws : List ℕ) (i : ℕ) → 512 ≤ i → false ≡ unnamed_bit ws i
-unnamed-out ws i l = sym (unnamed-none ws i l)
+pub unnamed-out : (ws : List ℕ) (i : ℕ) → 512 ≤ i → ltb i 512 ≡ unnamed_bit ws i
+unnamed-out ws i l = le-ltb i 512 l ∙ sym (unnamed-none ws i l)
 
 pub ruleset unnamed-laws = (unnamed_in, unnamed-out)
 
 -- the eight words of the edges of row i
-module _ (ws : List ℕ) (i w₀ w₁ w₂ w₃ w₄ w₅ w₆ w₇ : ℕ) (e₀ : w₀ ≡ get_or ws (8 + i * 9) 0)
-    (e₁ : w₁ ≡ get_or ws (8 + i * 9 + 1) 0)
-    (e₂ : w₂ ≡ get_or ws (8 + i * 9 + 2) 0)
-    (e₃ : w₃ ≡ get_or ws (8 + i * 9 + 3) 0)
-    (e₄ : w₄ ≡ get_or ws (8 + i * 9 + 4) 0)
-    (e₅ : w₅ ≡ get_or ws (8 + i * 9 + 5) 0)
-    (e₆ : w₆ ≡ get_or ws (8 + i * 9 + 6) 0)
-    (e₇ : w₇ ≡ get_or ws (8 + i * 9 + 7) 0) where
-  own-word : (k : ℕ) → k < 8 → get_or (w₀ ∷ w₁ ∷ w₂ ∷ w₃ ∷ w₄ ∷ w₅ ∷ w₆ ∷ w₇ ∷ []) k 0 ≡ get_or ws (8 + i * 9 + k) 0
-  own-word zero l = let z : 8 + i * 9 ≡ 8 + i * 9 + 0 = omega arith in e₀ ∙ ap (λ (n : ℕ). get_or ws n 0) z
-  own-word (suc zero) l = e₁
-  own-word (suc (suc zero)) l = e₂
-  own-word (suc (suc (suc zero))) l = e₃
-  own-word (suc (suc (suc (suc zero)))) l = e₄
-  own-word (suc (suc (suc (suc (suc zero))))) l = e₅
-  own-word (suc (suc (suc (suc (suc (suc zero)))))) l = e₆
-  own-word (suc (suc (suc (suc (suc (suc (suc zero))))))) l = e₇
-  own-word (suc (suc (suc (suc (suc (suc (suc (suc k)))))))) l = absurd (omega arith)
-
-  pub row-of_in : i < 512 → Holding (w₀ ∷ w₁ ∷ w₂ ∷ w₃ ∷ w₄ ∷ w₅ ∷ w₆ ∷ w₇ ∷ []) (edge_bit ws i)
-  unfolding holds edge_bit
-  row-of_in l = record {
-    each = λ j. by (ltb j 512)
-        (λ q. let m : j < 512 = ltb-true j 512 q in
-        let z : 8 + i * 9 + j / 64 ≡ 8 + (i * 9 + j / 64) = omega arith in
-        ap (λ (x : ℕ). bit x (j % 64)) (own-word (j / 64) (omega arith) ∙ ap (λ (n : ℕ). get_or ws n 0) z ∙ sym (row_word ws (i * 9 + j / 64) (omega arith)))
-        ∙ sym (edge-is (row_words ws) i j m))
-        (λ q. let m : 512 ≤ j = ltb-false j 512 q in holds-out (w₀ ∷ w₁ ∷ w₂ ∷ w₃ ∷ w₄ ∷ w₅ ∷ w₆ ∷ w₇ ∷ []) j refl m ∙ sym (edge-past (row_words ws) i j m));
-  }
+pub row-of_in : (ws row : List ℕ) (i : ℕ) → length row ≡ 8 → i < 512 → ((k : ℕ) → k < 8 → get_or row k 0 ≡ get_or ws (8 + i * 9 + k) 0) → Holding row (edge_bit ws i)
+unfolding holds edge_bit
+row-of_in ws row i n l e = record {
+  each = λ j. by (ltb j 512)
+      (λ q. let m : j < 512 = ltb-true j 512 q in
+      let z : 8 + i * 9 + j / 64 ≡ 8 + (i * 9 + j / 64) = omega arith in
+      ap (λ (x : ℕ). bit x (j % 64)) (e (j / 64) (omega arith) ∙ ap (λ (k : ℕ). get_or ws k 0) z ∙ sym (row_word ws (i * 9 + j / 64) (omega arith)))
+      ∙ sym (edge-is (row_words ws) i j m))
+      (λ q. let m : 512 ≤ j = ltb-false j 512 q in holds-out row j n m ∙ sym (edge-past (row_words ws) i j m));
+}
 
 pub row-of-out : (ws : List ℕ) (i : ℕ) (row : List ℕ) → 512 ≤ i → Empty row → Holding row (edge_bit ws i)
 row-of-out ws i row l e = record { each = λ j. e.none j ∙ sym (edge_none ws i j l) }
@@ -125,29 +105,15 @@ pub ruleset row-of-laws = (row-of_in, row-of-out)
 
 -- ---- how many members
 
-abbrev eight : List ℕ → List ℕ
-eight ws = get_or ws 0 0 ∷ get_or ws 1 0 ∷ get_or ws 2 0 ∷ get_or ws 3 0 ∷ get_or ws 4 0 ∷ get_or ws 5 0 ∷ get_or ws 6 0 ∷ get_or ws 7 0 ∷ []
-
-eight-at : (ws : List ℕ) (k : ℕ) → k < 8 → get_or (eight ws) k 0 ≡ get_or ws k 0
-eight-at ws zero l = refl
-eight-at ws (suc zero) l = refl
-eight-at ws (suc (suc zero)) l = refl
-eight-at ws (suc (suc (suc zero))) l = refl
-eight-at ws (suc (suc (suc (suc zero)))) l = refl
-eight-at ws (suc (suc (suc (suc (suc zero))))) l = refl
-eight-at ws (suc (suc (suc (suc (suc (suc zero)))))) l = refl
-eight-at ws (suc (suc (suc (suc (suc (suc (suc zero))))))) l = refl
-eight-at ws (suc (suc (suc (suc (suc (suc (suc (suc k)))))))) l = absurd (omega arith)
-
-pub members-is : (ws : List ℕ) (w₀ w₁ w₂ w₃ w₄ w₅ w₆ w₇ : ℕ)
-    → w₀ ≡ get_or ws 0 0 → w₁ ≡ get_or ws 1 0 → w₂ ≡ get_or ws 2 0 → w₃ ≡ get_or ws 3 0 → w₄ ≡ get_or ws 4 0 → w₅ ≡ get_or ws 5 0 → w₆ ≡ get_or ws 6 0 → w₇ ≡ get_or ws 7 0
-    → Holding (w₀ ∷ w₁ ∷ w₂ ∷ w₃ ∷ w₄ ∷ w₅ ∷ w₆ ∷ w₇ ∷ []) (member_bit ws)
-members-is ws w₀ w₁ w₂ w₃ w₄ w₅ w₆ w₇ e₀ e₁ e₂ e₃ e₄ e₅ e₆ e₇ = rw (e₀, e₁, e₂, e₃, e₄, e₅, e₆, e₇) (record {
+pub members-is : (ws row : List ℕ) → length row ≡ 8 → ((k : ℕ) → k < 8 → get_or row k 0 ≡ get_or ws (0 + k) 0) → Holding row (member_bit ws)
+unfolding member_bit holds
+members-is ws row n e = record {
   each = λ k. by (ltb k 512)
       (λ q. let l : k < 512 = ltb-true k 512 q in
-      unfold member_bit holds in ap (λ (w : ℕ). bit w (k % 64)) (eight-at ws (k / 64) (omega arith) ∙ sym (member-word ws (k / 64) (omega arith))))
-      (λ q. let l : 512 ≤ k = ltb-false k 512 q in holds-out (eight ws) k refl l ∙ sym (member-none ws k l));
-})
+      let z : 0 + k / 64 ≡ k / 64 = omega arith in
+      ap (λ (w : ℕ). bit w (k % 64)) (e (k / 64) (omega arith) ∙ ap (λ (i : ℕ). get_or ws i 0) z ∙ sym (member-word ws (k / 64) (omega arith))))
+      (λ q. let l : 512 ≤ k = ltb-false k 512 q in holds-out row k n l ∙ sym (unfold member_bit in member-none ws k l));
+}
 
 pub len_is : (ws row : List ℕ) (r : ℕ) → Holding row (member_bit ws) → r ≡ size row → r ≡ size (member_words ws)
 unfolding size member_bit
@@ -160,9 +126,9 @@ module _ (row : List ℕ) (j : ℕ) where
   unfolding with_read
   with_read_lem v l e = rw (lt-ltb j 512 l, e)
 
-  pub with-short : j < 512 → length row ≤ j / 64 → row ≡ with_read row j
+  pub with-short : length row ≤ j / 64 → j < 512 → row ≡ with_read row j
   unfolding with_read
-  with-short l m = rw (lt-ltb j 512 l) (sym (set_out row (j / 64) (bit_or (get_or row (j / 64) 0) (2 ^ (j % 64))) m))
+  with-short m l = rw (lt-ltb j 512 l) (sym (set_out row (j / 64) (bit_or (get_or row (j / 64) 0) (2 ^ (j % 64))) m))
 
   pub with-past : 512 ≤ j → row ≡ with_read row j
   unfolding with_read

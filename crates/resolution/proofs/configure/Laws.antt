@@ -1,9 +1,9 @@
 -- What each function around the resolver returns.
 use mathlib.Core.Path.{◌≡◌, refl, sym, ap, ◌∙◌, subst}
 use mathlib.Core.Bool.{Bool, true, false, ◌&&◌, ◌||◌, and-false, or-false}
-use mathlib.Core.List.{List, [], ◌∷◌, ◌++◌, map}
+use mathlib.Core.List.{List, ◌++◌, map}
 use mathlib.Core.Option.{some}
-use Prim.Native.Nat.{ℕ, zero, suc, ◌+◌, ◌^◌, ◌≤◌, ◌<◌}
+use Prim.Native.Nat.{ℕ, ◌+◌, ◌^◌, min, ◌≤◌, ◌<◌}
 use native.Mathlib.Omega.{arith}
 use native.Mathlib.Numerals.{add-one}
 use native.Mathlib.Nat.{zero-add}
@@ -13,12 +13,12 @@ use lib.Seq.{take-suc, length-take-le, get_or-append-add, take_at}
 use borrow.Rule.Slice.PartMut.{put_mid}
 use mir.Syntax.{w64}
 use mir.Val.{Fits}
+use Rattle.std.proofs.lemmas.List.{take_all, take_min}
 use borrow.Author.Tests.{ne_eqb, eqb-true, lt-ltb, ltb-true, ltb-false}
 use Rattle.records.specs.Descriptor.{Descriptor}
 use Rattle.records.specs.Request.{request_of}
 use Rattle.records.specs.Set.{check_set, modules}
 use Rattle.records.specs.Output.{written}
-use Rattle.records.specs.declared.set.SetAnswer.TheVariants.{Modules}
 use Rattle.records.proofs.set.Blocks.{GoodSet, good-set}
 use Rattle.records.proofs.Logic.{by, true≠false}
 use Rattle.resolution.specs.Lists.{Mem, any}
@@ -39,34 +39,23 @@ use Rattle.resolution.proofs.ConfigurationWords.{rows_are, one_bit, words-writte
 use Rattle.resolution.proofs.configuration.Laws.{read-added, read-long}
 use Rattle.resolution.proofs.row.Laws.{empty-zeros}
 use Rattle.resolution.proofs.resolver.Ends.{one-of-end}
+use Rattle.std.specs.Prelude.{Ok}
 
 -- ---- the positions as a row
 
 -- those before k are in the row
-pub record MembersAt (order : List ℕ) (n : ℕ) (ws : List ℕ) (k : ℕ) : Type 0 where
-  pub within : k ≤ n
+pub record MembersAt (order ws : List ℕ) (k : ℕ) : Type 0 where
   pub inside : k ≤ length order
   pub long : length ws ≡ 8
   pub so_far : MemberRow (take k order) ws
 
-pub members-start : (order : List ℕ) (n : ℕ) → MembersAt order n (replicate 8 0) 0
+pub members-start : (order : List ℕ) → MembersAt order (replicate 8 0) 0
 unfolding is_one_of any
-members-start order n = record { within = omega arith; inside = omega arith; long = length-replicate {A = ℕ} 8 0; so_far = record { each = λ k. (empty-zeros 8).none k ∙ sym (and-false (ltb k 512)) } }
+members-start order = record { inside = omega arith; long = length-replicate {A = ℕ} 8 0; so_far = record { each = λ k. (empty-zeros 8).none k ∙ sym (and-false (ltb k 512)) } }
 
--- the first n are all, where there are no more than n
-take_all : (l : List ℕ) (n k : ℕ) → length l ≤ k → k ≤ n → take k l ≡ take n l
-take_all [] zero zero a b = refl
-take_all [] (suc n) zero a b = refl
-take_all [] zero (suc k) a b = refl
-take_all [] (suc n) (suc k) a b = refl
-take_all (x ∷ l) n zero a b = absurd (omega arith)
-take_all (x ∷ l) zero (suc k) a b = absurd (omega arith)
-take_all (x ∷ l) (suc n) (suc k) a b = ap (λ (r : List ℕ). x ∷ r) (take_all l n k (omega arith) (omega arith))
-
-module _ (order : List ℕ) (n : ℕ) (ws : List ℕ) (k : ℕ) (h : MembersAt order n ws k) where
-  pub members-more : (after : List ℕ) → k < n → k < length order → after ≡ with_read ws (get_or order k 0) → MembersAt order n after (k + 1)
-  members-more after l m e = record {
-    within = omega arith;
+module _ (order ws : List ℕ) (k : ℕ) (h : MembersAt order ws k) where
+  pub members-more : (after : List ℕ) → k < length order → after ≡ with_read ws (get_or order k 0) → MembersAt order after (k + 1)
+  members-more after m e = record {
     inside = omega arith;
     long = read-long ws (get_or order k 0) after h.long e;
     so_far = record { each = λ j. by (ltb (get_or order k 0) 512) (λ y. below j (ltb-true (get_or order k 0) 512 y)) (λ y. above j (ltb-false (get_or order k 0) 512 y)) ∙ sym (more j) };
@@ -99,13 +88,14 @@ module _ (order : List ℕ) (n : ℕ) (ws : List ℕ) (k : ℕ) (h : MembersAt o
       above j y = ap (λ (l : List ℕ). holds l j) (a.above y) ∙ h.so_far.each j
           ∙ inner (ltb j 512) (is_one_of j (take k order)) (eqb j p) (λ z. ne_eqb j p (λ i. absurd (omega (arith, ltb-true j 512 z))))
 
-  pub members-past : length order ≤ k → MemberRow (take n order) ws
-  members-past l = subst (λ (ps : List ℕ). MemberRow ps ws) (take_all order n k l h.within) h.so_far
+  pub members-end : length order ≤ k → MemberRow order ws
+  members-end l = subst (λ (ps : List ℕ). MemberRow ps ws) (take_all k order l) h.so_far
 
-  pub members-end : n ≤ k → MemberRow (take n order) ws
-  members-end l = let i : k ≡ n = omega (arith, h.within) in subst (λ (x : ℕ). MemberRow (take x order) ws) i h.so_far
+-- the first n are all, where there are no more than n
+pub members-of : (order ws : List ℕ) (n m k : ℕ) → m ≡ min n (length order) → MembersAt (take m order) ws k → length (take m order) ≤ k → MemberRow (take n order) ws
+members-of order ws n m k e h l = subst (λ (ps : List ℕ). MemberRow ps ws) (ap (λ (i : ℕ). take i order) e ∙ take_min n order) (members-end (take m order) ws k h l)
 
-pub ruleset members-laws = (members-start, members-more, members-past, members-end)
+pub ruleset members-laws = (members-start, members-more, members-of)
 
 -- ---- the configuration
 
@@ -159,7 +149,7 @@ members-fit before members between rows m e f i = by (ltb i 8)
     front = ap length (ap (take 8) e ∙ take_at members (drop (0 + length members) before) 8 m) ∙ m
 
 -- the words written are those of the modules at the positions
-pub configure_is : (s q : List ℕ) (n : ℕ) (t : List ℕ) → check_set s ≡ record { answer = Modules n; starts = t }
+pub configure_is : (s q : List ℕ) (n : ℕ) (t : List ℕ) → check_set s ≡ Ok (record { count = n; starts = t })
     → (ps members rows before between : List ℕ) → word_count ≤ length before → length between ≡ length before → length members ≡ 8
     → length rows ≡ length (take 4608 (drop 8 between)) → ((i : ℕ) → Fits w64 (get_or (put_mid 8 4608 between rows) i 0))
     → MemberRow ps members → between ≡ written before 0 members → ReadEdges s q members rows
@@ -189,5 +179,3 @@ configure_room before between h e = omega (arith, e)
 
 pub configure_front : (before : List ℕ) → word_count ≤ length before → 0 + 8 ≤ length before
 configure_front before h = omega arith
-
-pub ruleset configure_laws = (configure_room, configure_front, rows-length)

@@ -2,9 +2,9 @@
 use mathlib.Core.Path.{◌≡◌, refl, sym, ap, ◌∙◌}
 use mathlib.Core.Bool.{Bool, true, false, ◌&&◌, ◌||◌, and-true, and-false, or-false, or-true, or_assoc}
 use mathlib.Core.List.{List, [], ◌∷◌, map}
-use Prim.Native.Nat.{ℕ, zero, suc, ◌-◌, ◌≤◌, ◌<◌, zero-le}
+use Prim.Native.Nat.{ℕ, zero, suc, ◌+◌, ◌-◌, ◌≤◌, ◌<◌}
 use native.Mathlib.Omega.{arith}
-use native.Mathlib.Nat.{not-suc-le-zero, le_antisymm}
+use native.Mathlib.Nat.{not-suc-le-zero}
 use native.Mathlib.Numerals.{sub-one}
 use lib.ListN.{take, drop}
 use Rattle.records.specs.Bytes.{same_bytes, u16_at}
@@ -13,12 +13,9 @@ use Rattle.records.specs.Record.{next_of}
 use Rattle.records.specs.Request.{request_of, limit_of, within_limit, is_permitted}
 use Rattle.records.specs.Set.{check_set, modules}
 use Rattle.records.specs.Finder.{find_name, is_at, is_first}
-use Rattle.records.specs.declared.finder.Found.{Found}
-use Rattle.records.specs.declared.finder.Found.TheVariants.{At, Nothing}
-use Rattle.records.specs.declared.record.Cursor.{Cursor}
+use Rattle.records.specs.Finder.{Found}
 use Rattle.records.specs.declared.record.Kind.TheVariants as Kind
-use Rattle.records.specs.declared.record.Next.{Next}
-use Rattle.records.specs.declared.set.SetAnswer.TheVariants.{Modules}
+use Rattle.records.specs.Record.{Next}
 use Rattle.records.proofs.Logic.{by, true≠false}
 use Rattle.records.proofs.bytes.Laws.{same-eq, same_refl}
 use Rattle.records.proofs.finder.Modules.{is_at_lem, found_at}
@@ -34,18 +31,20 @@ use Rattle.resolution.specs.Configure.{is_found_by, PermittedRow}
 use Rattle.resolution.proofs.Find.{find-mem}
 use Rattle.resolution.proofs.Positions.{located, located_visible, visible_in}
 use Rattle.resolution.proofs.Sets.{set-length, lookup-few, lookup-room, lookup-index}
+use Rattle.std.specs.Prelude.{Some, None, Ok}
+use Rattle.records.specs.declared.record.Span.{Span}
 
 -- ---- one name
 
 module _ (s t index : List ℕ) (n : ℕ) (x : Lookup s t n index) (name : Name) (f : Found) (ef : f ≡ find_name (table_names s t n) name 0) (before : List ℕ) where
-  pub named-found : (i : ℕ) (after : List ℕ) → f ≡ At i → Added before i after → WithMore before (is_at (find_name (table_names s t n) name 0)) after
+  pub named-found : (i : ℕ) (after : List ℕ) → f ≡ Some i → Added before i after → WithMore before (is_at (find_name (table_names s t n) name 0)) after
   unfolding is_at
   named-found i after ei a =
-      let q : find_name (table_names s t n) name 0 ≡ At i = sym ef ∙ ei in
+      let q : find_name (table_names s t n) name 0 ≡ Some i = sym ef ∙ ei in
       let small : i < 512 = omega (arith, (found_at (table_names s t n) name 0 i q).within, names-long s t n x.within, x.few) in
       record { each = λ j. a.below small j ∙ sym (ap (λ (g : Found). holds before j || is_at g j) q) }
 
-  pub named_none : f ≡ Nothing → WithMore before (is_at (find_name (table_names s t n) name 0)) before
+  pub named_none : f ≡ None → WithMore before (is_at (find_name (table_names s t n) name 0)) before
   unfolding is_at
   named_none en = record { each = λ j. sym (ap (λ (g : Found). holds before j || is_at g j) (sym ef ∙ en) ∙ or-false (holds before j)) }
 
@@ -53,12 +52,12 @@ pub ruleset named-laws = (named-found, named_none, lookup-few, lookup-room, look
 
 -- ---- the names of a list
 
--- k names are left, from u on
+-- k names are taken, and the others stand from u on
 pub record NamesAt (l : List Name) (names : List ℕ) (n : ℕ) (before out u : List ℕ) (k : ℕ) : Type 0 where
-  pub left : (j : ℕ) → (holds before j || is_found_by l (names_of n names) j) ≡ (holds out j || is_found_by l (names_of k u) j)
+  pub left : (j : ℕ) → (holds before j || is_found_by l (names_of n names) j) ≡ (holds out j || is_found_by l (names_of (n - k) u) j)
 
-pub names-start : (l : List Name) (names : List ℕ) (n : ℕ) (before : List ℕ) → NamesAt l names n before before names n
-names-start l names n before = record { left = λ j. refl }
+pub names-start : (l : List Name) (names : List ℕ) (n : ℕ) (before : List ℕ) → NamesAt l names n before before names 0
+names-start l names n before = record { left = λ j. let e : n - 0 ≡ n = omega arith in rw e }
 
 by_first : (l : List Name) (k : ℕ) (u : List ℕ) (j : ℕ) → 0 < k → is_found_by l (names_of k u) j ≡ (is_at (find_name l (name_of u) 0) j || is_found_by l (names_of (k - 1) (after_name u)) j)
 unfolding is_found_by any names_of
@@ -66,17 +65,22 @@ by_first l zero u j h = absurd (not-suc-le-zero h)
 by_first l (suc k) u j h = rw (sub-one (suc k))
 
 module _ (l : List Name) (names : List ℕ) (n : ℕ) (before out u : List ℕ) (k : ℕ) (h : NamesAt l names n before out u k) where
-  pub names_more : (name : Name) (after v : List ℕ) → 0 < k → name ≡ name_of u → WithMore out (is_at (find_name l name 0)) after → v ≡ after_name u
-      → NamesAt l names n before after v (k - 1)
-  names_more name after v p en w ev = record {
-    left = λ j. h.left j ∙ rw (by_first l k u j p)
-        (sym (or_assoc (holds out j) (is_at (find_name l (name_of u) 0) j) (is_found_by l (names_of (k - 1) (after_name u)) j))
-        ∙ sym (rw (w.each j, en, ev)));
-  }
+  pub names_more : (name : Name) (after v : List ℕ) → k < n → name ≡ name_of u → WithMore out (is_at (find_name l name 0)) after → v ≡ after_name u
+      → NamesAt l names n before after v (k + 1)
+  names_more name after v p en w ev =
+      let q : 0 < n - k = omega arith in
+      let e : n - (k + 1) ≡ n - k - 1 = omega arith in
+      record {
+        left = λ j. h.left j ∙ rw (by_first l (n - k) u j q)
+            (sym (or_assoc (holds out j) (is_at (find_name l (name_of u) 0) j) (is_found_by l (names_of (n - k - 1) (after_name u)) j))
+            ∙ sym (rw (w.each j, en, ev, e)));
+      }
 
-  pub names-done : k ≤ 0 → WithMore before (is_found_by l (names_of n names)) out
+  pub names-done : n ≤ k → WithMore before (is_found_by l (names_of n names)) out
   unfolding is_found_by any names_of
-  names-done p = record { each = λ j. sym (h.left j ∙ rw (le_antisymm p zero-le) (or-false (holds out j))) }
+  names-done p =
+      let e : n - k ≡ 0 = omega arith in
+      record { each = λ j. sym (h.left j ∙ rw (e, or-false (holds out j))) }
 
 pub ruleset names-laws = (names-start, names_more, names-done)
 
@@ -88,7 +92,7 @@ unfolding is_found_by any list_of
 by-list l b none base ws u n z w en eu v = record { each = λ j. v.each j ∙ rw (w.each j, z.none j, en, eu) }
 
 -- a name finds the visible module that it names
-module _ (s : List ℕ) (n : ℕ) (t : List ℕ) (e : check_set s ≡ record { answer = Modules n; starts = t }) where
+module _ (s : List ℕ) (n : ℕ) (t : List ℕ) (e : check_set s ≡ Ok (record { count = n; starts = t })) where
   found_is : (x : Name) (i : ℕ) → is_at (find_name (table_names s t n) x 0) i ≡ is_visible (modules s) i && same_bytes x (module_at (modules s) i).name
   unfolding is_visible is_first
   found_is x i = rw (good-set s n t e).names (by (is_at F i) yes no)
@@ -130,14 +134,14 @@ module _ (s : List ℕ) (n : ℕ) (t : List ℕ) (e : check_set s ≡ record { a
     permits h = record { past = λ i l. h i ∙ rw (hidden-past i l); each = λ i l. h i }
 
     -- with an LM, the visible modules that it and java.base name
-    pub permitted_listed : (start len : ℕ) (next : Cursor) → r ≡ Next.Body start len next → (b : List ℕ) → b ≡ take len (drop start q)
+    pub permitted_listed : (span : Span) → r ≡ Some span → (b : List ℕ) → b ≡ take span.len (drop span.start q)
         → Holding ws (is_found_by (table_names s t n) (java_base ∷ list_of b)) → PermittedRow s q n ws
     unfolding is_permitted request_of limit_of within_limit mem_name
-    permitted_listed start len next k b eb h = permits (λ i. h.each i ∙ by-is (java_base ∷ list_of b) i
-        ∙ rw (same_back java_base (module_at (modules s) i).name, bodies-next Kind.LimitModules q 0 r er start len next k (omega arith), eb))
+    permitted_listed span k b eb h = permits (λ i. h.each i ∙ by-is (java_base ∷ list_of b) i
+        ∙ rw (same_back java_base (module_at (modules s) i).name, bodies-next Kind.LimitModules q 0 r er span.start span.len span.next k (omega arith), eb))
 
     -- without one, the visible modules
-    pub permitted_free : r ≡ Next.Nothing → Holding ws (is_visible (modules s)) → PermittedRow s q n ws
+    pub permitted_free : r ≡ None → Holding ws (is_visible (modules s)) → PermittedRow s q n ws
     unfolding is_permitted request_of limit_of within_limit
     permitted_free k h = permits (λ i. h.each i
         ∙ sym (rw (bodies-end Kind.LimitModules q 0 r er k, or-true (same_bytes (module_at (modules s) i).name java_base)) (and-true (is_visible (modules s) i))))

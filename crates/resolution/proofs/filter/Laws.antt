@@ -11,9 +11,7 @@ use borrow.Author.Tests.{eq-eqb}
 use Rattle.records.specs.Bytes.{same_bytes}
 use Rattle.records.specs.Name.{mem_name, name_of}
 use Rattle.records.specs.Record.{bodies, next_of}
-use Rattle.records.specs.declared.record.Cursor.{Cursor}
-use Rattle.records.specs.declared.record.Next.{Next}
-use Rattle.records.specs.declared.record.Next.TheVariants.{Body, Nothing}
+use Rattle.records.specs.Record.{Next}
 use Rattle.records.specs.declared.record.Kind.{Kind}
 use Rattle.records.proofs.record.Bodies.{bodies-next, bodies-end, next-room, next-less}
 use Rattle.records.proofs.Logic.{by, and_left, and_right, and_both, or_left, or_right, or_cases, true≠false, neither_left, neither_right}
@@ -23,6 +21,8 @@ use Rattle.resolution.specs.Hash.{hash_of}
 use Rattle.resolution.specs.Filter.{has_bits, is_marked, BitSet, BitsSet, MarkedAll}
 use Rattle.resolution.proofs.Lists.{same→}
 use Rattle.resolution.proofs.row.Laws.{holds-added}
+use Rattle.std.specs.Prelude.{Some, None}
+use Rattle.records.specs.declared.record.Span.{Span}
 
 -- ---- the bits of a number
 
@@ -31,9 +31,9 @@ pub set-bit-is : (g : List ℕ) (a v : ℕ) → length g ≡ 1024 → a < 65536 
 set-bit-is g a v n l h = record { each = holds-added g a v (omega arith) h }
 
 module _ (words : List ℕ) (h : ℕ) (r : Bool) (er : r ≡ holds words (h % 65536)) where
-  pub bits-not : r ≡ false → false ≡ has_bits words h
+  pub bits-not : r ≡ false → r ≡ has_bits words h
   unfolding has_bits
-  bits-not f = rw (← er, f)
+  bits-not f = f ∙ rw (← er, f)
 
   pub bits_are : (q : Bool) → r ≡ true → q ≡ holds words (h / 65536 % 65536) → q ≡ has_bits words h
   unfolding has_bits
@@ -101,15 +101,15 @@ module _ (k : Kind) (block before words : List ℕ) (at : ℕ) (met : Bool) (h :
   names_same = h.long
 
   module _ (r : Next) (er : r ≡ next_of k block at) where
-    module _ (start len : ℕ) (next : Cursor) (e : r ≡ Body start len next) where
-      pub names-less : length block - next.at < length block - at
-      names-less = next-less k block at r er start len next e h.within
+    module _ (span : Span) (e : r ≡ Some span) where
+      pub names-less : length block - span.next.at < length block - at
+      names-less = next-less k block at r er span.start span.len span.next e h.within
 
-      pub names_more : (b n words₁ : List ℕ) (was more : Bool) → b ≡ take len (drop start block) → n ≡ name_of b → length words₁ ≡ length words → was ≡ is_marked words n
-          → MarkedAll words (n ∷ []) words₁ → more ≡ (met || was) → MarkAt k block before words₁ next.at more
+      pub names_more : (b n words₁ : List ℕ) (was more : Bool) → b ≡ take span.len (drop span.start block) → n ≡ name_of b → length words₁ ≡ length words → was ≡ is_marked words n
+          → MarkedAll words (n ∷ []) words₁ → more ≡ (met || was) → MarkAt k block before words₁ span.next.at more
       unfolding mem_name any
       names_more b n words₁ was more eb en el ew m em = record {
-        within = next-room k block at r er start len next e h.within;
+        within = next-room k block at r er span.start span.len span.next e h.within;
         long = el ∙ h.long;
         wide = h.wide;
         kept = λ x t. m.kept x (h.kept x t);
@@ -117,29 +117,29 @@ module _ (k : Kind) (block before words : List ℕ) (at : ℕ) (met : Bool) (h :
         unmet = λ f. passed (sym em ∙ f);
       }
         where
-          name-is : n ≡ name_of (take len (drop start block))
+          name-is : n ≡ name_of (take span.len (drop span.start block))
           name-is = en ∙ ap name_of eb
 
-          new : was ≡ false → is_marked before (name_of (take len (drop start block))) ≡ false
+          new : was ≡ false → is_marked before (name_of (take span.len (drop span.start block))) ≡ false
           new f =
-              by (is_marked before (name_of (take len (drop start block))))
-              (λ t. true≠false (ap (is_marked words) name-is ∙ h.kept (name_of (take len (drop start block))) t) (sym ew ∙ f))
+              by (is_marked before (name_of (take span.len (drop span.start block))))
+              (λ t. true≠false (ap (is_marked words) name-is ∙ h.kept (name_of (take span.len (drop span.start block))) t) (sym ew ∙ f))
               (λ t. t)
 
           passed : (met || was) ≡ false
-              → any (is_marked before) (map name_of (bodies k block)) ≡ any (is_marked before) (map name_of (bodies k (drop next.at block)))
+              → any (is_marked before) (map name_of (bodies k block)) ≡ any (is_marked before) (map name_of (bodies k (drop span.next.at block)))
           passed f =
-              h.unmet (neither_left met was f) ∙ rw (bodies-next k block at r er start len next e h.within, new (neither_right met was f))
+              h.unmet (neither_left met was f) ∙ rw (bodies-next k block at r er span.start span.len span.next e h.within, new (neither_right met was f))
 
           turned : (x : Name) → mem_name x (map name_of (bodies k (drop at block))) ≡ true
-              → (is_marked words₁ x ≡ true) ⊎ (mem_name x (map name_of (bodies k (drop next.at block))) ≡ true)
+              → (is_marked words₁ x ≡ true) ⊎ (mem_name x (map name_of (bodies k (drop span.next.at block))) ≡ true)
           turned x s =
-              let p : (same_bytes (name_of (take len (drop start block))) x || mem_name x (map name_of (bodies k (drop next.at block)))) ≡ true =
-              rw (bodies-next k block at r er start len next e h.within) at s in
-              or_cases (same_bytes (name_of (take len (drop start block))) x) (mem_name x (map name_of (bodies k (drop next.at block)))) p
+              let p : (same_bytes (name_of (take span.len (drop span.start block))) x || mem_name x (map name_of (bodies k (drop span.next.at block)))) ≡ true =
+              rw (bodies-next k block at r er span.start span.len span.next e h.within) at s in
+              or_cases (same_bytes (name_of (take span.len (drop span.start block))) x) (mem_name x (map name_of (bodies k (drop span.next.at block)))) p
               (λ q. inl (m.new x (or_left (same_bytes n x) false (ap (λ (y : Name). same_bytes y x) name-is ∙ q)))) (λ q. inr q)
 
-    pub names-done : r ≡ Nothing → MarkedAll before (map name_of (bodies k block)) words
+    pub names-done : r ≡ None → MarkedAll before (map name_of (bodies k block)) words
     unfolding mem_name
     names-done e = record {
       kept = h.kept;
@@ -149,7 +149,7 @@ module _ (k : Kind) (block before words : List ℕ) (at : ℕ) (met : Bool) (h :
         none : (n : Name) → mem_name n (map name_of (bodies k (drop at block))) ≡ true → is_marked words n ≡ true
         none n s = let p : false ≡ true = rw (bodies-end k block at r er e) at s in true≠false p refl
 
-    pub names_unmet : r ≡ Nothing → met ≡ false → any (is_marked before) (map name_of (bodies k block)) ≡ false
+    pub names_unmet : r ≡ None → met ≡ false → any (is_marked before) (map name_of (bodies k block)) ≡ false
     unfolding any
     names_unmet e f = h.unmet f ∙ rw (bodies-end k block at r er e)
 

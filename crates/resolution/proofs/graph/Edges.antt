@@ -1,20 +1,19 @@
 -- The edges of a graph: none leads past 511, one is added by a bit of a word, and those to what a row does not hold.
 use mathlib.Core.Path.{◌≡◌, refl, sym, ap, ap₂, ◌∙◌}
 use mathlib.Core.Bool.{Bool, true, false, not, ◌||◌, ◌&&◌, and-false, or-false}
-use mathlib.Core.List.{List, [], ◌∷◌}
-use Prim.Native.Nat.{ℕ, zero, suc, ◌+◌, ◌-◌, ◌*◌, ◌/◌, ◌%◌, ◌^◌, ◌≤◌, ◌<◌}
+use mathlib.Core.List.{List}
+use Prim.Native.Nat.{ℕ, ◌+◌, ◌-◌, ◌*◌, ◌/◌, ◌%◌, ◌^◌, ◌≤◌, ◌<◌}
 use native.Mathlib.Omega.{arith}
 use lib.Dec.{eqb, ltb}
 use lib.ListN.{length, get_or, set, replicate, get_or-eq_default}
-use native.Mathlib.Nat.{add-zero}
 use lib.Seq.{get_or-set_same, get_or-set_other}
 use borrow.Author.Tests.{eq-eqb, ne_eqb, eqb-true, eqb-false, ltb-true, ltb-false, lt-ltb, le-ltb}
 use mir.Syntax.{w64}
 use mir.Val.{Fits}
 use lib.Bits.{bit_and, bit_or}
-use Rattle.records.proofs.Logic.{true≠false, neither_left, neither_right}
+use Rattle.records.proofs.Logic.{true≠false, by, neither_left, neither_right}
 use Rattle.resolution.specs.Row.{bit, holds}
-use Rattle.resolution.specs.Graph.{edge, ninth, lacks, Lacking, AnyLacking}
+use Rattle.resolution.specs.Graph.{edge, ninth, Successors, lacks, Lacking, AnyLacking}
 use Rattle.resolution.proofs.row.Bits.{bit-zero, bit-and, bit_not, bit-or}
 use Rattle.resolution.proofs.row.Laws.{eqb-parts, holds-out, zero-at}
 
@@ -94,32 +93,14 @@ edge-zeros n i j =
     ∙ ap (λ (t : Bool). ltb j 512 && t) (bit-zero (j % 64)) ∙ and-false (ltb j 512)
 
 -- the eight words of the edges of row i
-abbrev pub row_of : List ℕ → ℕ → List ℕ
-row_of g i =
-    get_or g (i * 9) 0 ∷ get_or g (i * 9 + 1) 0 ∷ get_or g (i * 9 + 2) 0 ∷ get_or g (i * 9 + 3) 0 ∷ get_or g (i * 9 + 4) 0 ∷ get_or g (i * 9 + 5) 0 ∷ get_or g (i * 9 + 6) 0 ∷ get_or g (i * 9 + 7) 0 ∷ []
-
-row_at : (g : List ℕ) (i k : ℕ) → k < 8 → get_or (row_of g i) k 0 ≡ get_or g (i * 9 + k) 0
-row_at g i zero h = ap (λ (n : ℕ). get_or g n 0) (sym (add-zero (i * 9)))
-row_at g i (suc zero) h = refl
-row_at g i (suc (suc zero)) h = refl
-row_at g i (suc (suc (suc zero))) h = refl
-row_at g i (suc (suc (suc (suc zero)))) h = refl
-row_at g i (suc (suc (suc (suc (suc zero))))) h = refl
-row_at g i (suc (suc (suc (suc (suc (suc zero)))))) h = refl
-row_at g i (suc (suc (suc (suc (suc (suc (suc zero))))))) h = refl
-row_at g i (suc (suc (suc (suc (suc (suc (suc (suc k)))))))) h = absurd (omega arith)
-
-pub row-edges : (g : List ℕ) (i j : ℕ) → holds (row_of g i) j ≡ edge g i j
+pub row-edges : (g : List ℕ) (i : ℕ) (ws : List ℕ) → length ws ≡ 8 → ((k : ℕ) → k < 8 → get_or ws k 0 ≡ get_or g (i * 9 + k) 0) → Successors g i ws
 unfolding holds
-row-edges g i j = go (ltb j 512) refl
-  where
-    go : (t : Bool) → ltb j 512 ≡ t → bit (get_or (row_of g i) (j / 64) 0) (j % 64) ≡ edge g i j
-    go true h =
-        let l : j < 512 = ltb-true j 512 h in
-        ap (λ (w : ℕ). bit w (j % 64)) (row_at g i (j / 64) (omega arith)) ∙ sym (edge-is g i j l)
-    go false h =
-        let l : 512 ≤ j = ltb-false j 512 h in
-        holds-out (row_of g i) j refl l ∙ sym (edge-past g i j l)
+row-edges g i ws n e = record {
+  each = λ j. by (ltb j 512)
+      (λ h. let l : j < 512 = ltb-true j 512 h in
+      ap (λ (w : ℕ). bit w (j % 64)) (e (j / 64) (omega arith)) ∙ sym (edge-is g i j l))
+      (λ h. let l : 512 ≤ j = ltb-false j 512 h in holds-out ws j n l ∙ sym (edge-past g i j l));
+}
 
 -- ---- the edges to what a row does not hold
 
@@ -127,94 +108,60 @@ row-edges g i j = go (ltb j 512) refl
 abbrev pub lack_word : ℕ → ℕ → ℕ
 lack_word w x = bit_and w ((2 ^ 64 - 1) - x)
 
-abbrev pub lack_words : List ℕ → ℕ → List ℕ → List ℕ
-lack_words g i out =
-    lack_word (get_or g (i * 9) 0) (get_or out 0 0) ∷ lack_word (get_or g (i * 9 + 1) 0) (get_or out 1 0) ∷ lack_word (get_or g (i * 9 + 2) 0) (get_or out 2 0) ∷ lack_word (get_or g (i * 9 + 3) 0) (get_or out 3 0) ∷ lack_word (get_or g (i * 9 + 4) 0) (get_or out 4 0) ∷ lack_word (get_or g (i * 9 + 5) 0) (get_or out 5 0) ∷ lack_word (get_or g (i * 9 + 6) 0) (get_or out 6 0) ∷ lack_word (get_or g (i * 9 + 7) 0) (get_or out 7 0) ∷ []
+lack-bit : (w x b : ℕ) → Fits w64 x → b < 64 → bit (lack_word w x) b ≡ bit w b && not (bit x b)
+lack-bit w x b f l = bit-and w ((2 ^ 64 - 1) - x) b ∙ ap (λ (t : Bool). bit w b && t) (bit_not 64 x b f.fits l)
 
-lack-at : (g : List ℕ) (i : ℕ) (out : List ℕ) (k : ℕ) → k < 8 → get_or (lack_words g i out) k 0 ≡ lack_word (get_or g (i * 9 + k) 0) (get_or out k 0)
-lack-at g i out zero h = ap (λ (n : ℕ). lack_word (get_or g n 0) (get_or out 0 0)) (sym (add-zero (i * 9)))
-lack-at g i out (suc zero) h = refl
-lack-at g i out (suc (suc zero)) h = refl
-lack-at g i out (suc (suc (suc zero))) h = refl
-lack-at g i out (suc (suc (suc (suc zero)))) h = refl
-lack-at g i out (suc (suc (suc (suc (suc zero))))) h = refl
-lack-at g i out (suc (suc (suc (suc (suc (suc zero)))))) h = refl
-lack-at g i out (suc (suc (suc (suc (suc (suc (suc zero))))))) h = refl
-lack-at g i out (suc (suc (suc (suc (suc (suc (suc (suc k)))))))) h = absurd (omega arith)
-
-pub lacking_is : (g : List ℕ) (i : ℕ) (out : List ℕ) → ((k : ℕ) → Fits w64 (get_or out k 0)) → Lacking g i out (lack_words g i out)
+pub lacking_is : (g : List ℕ) (i : ℕ) (out row ws : List ℕ) → ((k : ℕ) → Fits w64 (get_or out k 0)) → length ws ≡ 8 → Successors g i row
+    → ((k : ℕ) → k < 8 → get_or ws k 0 ≡ lack_word (get_or row k 0) (get_or out k 0)) → Lacking g i out ws
 unfolding lacks holds
-lacking_is g i out f = record { each = λ j. go j (ltb j 512) refl }
-  where
-    go : (j : ℕ) (t : Bool) → ltb j 512 ≡ t → holds (lack_words g i out) j ≡ edge g i j && not (holds out j)
-    go j true h =
-        let l : j < 512 = ltb-true j 512 h in
-        let w = get_or g (i * 9 + j / 64) 0 in
-        let x = get_or out (j / 64) 0 in
-        ap (λ (y : ℕ). bit y (j % 64)) (lack-at g i out (j / 64) (omega arith))
-        ∙ bit-and w ((2 ^ 64 - 1) - x) (j % 64)
-        ∙ ap₂ (λ (s t : Bool). s && t) (sym (edge-is g i j l)) (bit_not 64 x (j % 64) (f (j / 64)).fits (omega arith))
-    go j false h =
-        let l : 512 ≤ j = ltb-false j 512 h in
-        holds-out (lack_words g i out) j refl l ∙ ap (λ (t : Bool). t && not (holds out j)) (sym (edge-past g i j l))
+lacking_is g i out row ws f n s e = record {
+  each = λ j. by (ltb j 512)
+      (λ h. let l : j < 512 = ltb-true j 512 h in
+      ap (λ (w : ℕ). bit w (j % 64)) (e (j / 64) (omega arith))
+      ∙ lack-bit (get_or row (j / 64) 0) (get_or out (j / 64) 0) (j % 64) (f (j / 64)) (omega arith)
+      ∙ ap (λ (t : Bool). t && not (bit (get_or out (j / 64) 0) (j % 64))) (s.each j))
+      (λ h. let l : 512 ≤ j = ltb-false j 512 h in
+      holds-out ws j n l ∙ ap (λ (t : Bool). t && not (bit (get_or out (j / 64) 0) (j % 64))) (sym (edge-past g i j l)));
+}
 
--- the eight words in one: it is 0 only where all are
-abbrev pub any_word : ℕ → ℕ → ℕ → ℕ → ℕ → ℕ → ℕ → ℕ → ℕ
-any_word a b c d e f g h = bit_or (bit_or (bit_or (bit_or (bit_or (bit_or (bit_or a b) c) d) e) f) g) h
+-- ---- whether there are any: all words in one
 
--- two words in one
-or-zero : (a b k : ℕ) → bit (bit_or a b) k ≡ false → (bit a k ≡ false) × (bit b k ≡ false)
-or-zero a b k h = let o : (bit a k || bit b k) ≡ false = sym (bit-or a b k) ∙ h in (neither_left (bit a k) (bit b k) o, neither_right (bit a k) (bit b k) o)
+-- a bit that no word before k has is not in `all`
+pub record LackAt (g : List ℕ) (i : ℕ) (out : List ℕ) (all k : ℕ) : Type 0 where
+  pub none : (q b : ℕ) → q < k → bit all b ≡ false → bit (lack_word (get_or g (i * 9 + q) 0) (get_or out q 0)) b ≡ false
 
-any_at : (a b c d e f g h i k : ℕ) → any_word a b c d e f g h ≡ 0 → bit (get_or (a ∷ b ∷ c ∷ d ∷ e ∷ f ∷ g ∷ h ∷ []) i 0) k ≡ false
-any_at a b c d e f g h i k z = at i
-  where
-    o₇ : (bit (bit_or (bit_or (bit_or (bit_or (bit_or (bit_or a b) c) d) e) f) g) k ≡ false) × (bit h k ≡ false)
-    o₇ = or-zero (bit_or (bit_or (bit_or (bit_or (bit_or (bit_or a b) c) d) e) f) g) h k (ap (λ (w : ℕ). bit w k) z ∙ bit-zero k)
+pub lack-start : (g : List ℕ) (i : ℕ) (out : List ℕ) → LackAt g i out 0 0
+lack-start g i out = record { none = λ q b l. absurd (omega arith) }
 
-    o₆ : (bit (bit_or (bit_or (bit_or (bit_or (bit_or a b) c) d) e) f) k ≡ false) × (bit g k ≡ false)
-    o₆ = or-zero (bit_or (bit_or (bit_or (bit_or (bit_or a b) c) d) e) f) g k o₇.0
+module _ (g : List ℕ) (i : ℕ) (out : List ℕ) (all k : ℕ) (h : LackAt g i out all k) where
+  pub lack-next : LackAt g i out (bit_or all (lack_word (get_or g (i * 9 + k) 0) (get_or out k 0))) (k + 1)
+  lack-next = record { none = λ q b l z. by (eqb q k) (λ y. here q b (eqb-true q k y) z) (λ y. h.none q b (before q l (eqb-false q k y)) (neither_left _ _ (both b z))) }
+    where
+      both : (b : ℕ) → bit (bit_or all (lack_word (get_or g (i * 9 + k) 0) (get_or out k 0))) b ≡ false → (bit all b || bit (lack_word (get_or g (i * 9 + k) 0) (get_or out k 0)) b) ≡ false
+      both b z = sym (bit-or all (lack_word (get_or g (i * 9 + k) 0) (get_or out k 0)) b) ∙ z
 
-    o₅ : (bit (bit_or (bit_or (bit_or (bit_or a b) c) d) e) k ≡ false) × (bit f k ≡ false)
-    o₅ = or-zero (bit_or (bit_or (bit_or (bit_or a b) c) d) e) f k o₆.0
+      here : (q b : ℕ) → q ≡ k → bit (bit_or all (lack_word (get_or g (i * 9 + k) 0) (get_or out k 0))) b ≡ false → bit (lack_word (get_or g (i * 9 + q) 0) (get_or out q 0)) b ≡ false
+      here q b e z = rw e (neither_right (bit all b) _ (both b z))
 
-    o₄ : (bit (bit_or (bit_or (bit_or a b) c) d) k ≡ false) × (bit e k ≡ false)
-    o₄ = or-zero (bit_or (bit_or (bit_or a b) c) d) e k o₅.0
+      before : (q : ℕ) → q < k + 1 → (q ≡ k → ⊥) → q < k
+      before q l n = omega arith
 
-    o₃ : (bit (bit_or (bit_or a b) c) k ≡ false) × (bit d k ≡ false)
-    o₃ = or-zero (bit_or (bit_or a b) c) d k o₄.0
-
-    o₂ : (bit (bit_or a b) k ≡ false) × (bit c k ≡ false)
-    o₂ = or-zero (bit_or a b) c k o₃.0
-
-    o₁ : (bit a k ≡ false) × (bit b k ≡ false)
-    o₁ = or-zero a b k o₂.0
-
-    at : (i : ℕ) → bit (get_or (a ∷ b ∷ c ∷ d ∷ e ∷ f ∷ g ∷ h ∷ []) i 0) k ≡ false
-    at zero = o₁.0
-    at (suc zero) = o₁.1
-    at (suc (suc zero)) = o₂.1
-    at (suc (suc (suc zero))) = o₃.1
-    at (suc (suc (suc (suc zero)))) = o₄.1
-    at (suc (suc (suc (suc (suc zero))))) = o₅.1
-    at (suc (suc (suc (suc (suc (suc zero)))))) = o₆.1
-    at (suc (suc (suc (suc (suc (suc (suc zero))))))) = o₇.1
-    at (suc (suc (suc (suc (suc (suc (suc (suc i)))))))) = bit-zero k
-
-none-zero : (w : ℕ) → not (eqb w 0) ≡ false → w ≡ 0
-none-zero w e = go (eqb w 0) refl e
-  where
-    go : (t : Bool) → eqb w 0 ≡ t → not t ≡ false → w ≡ 0
-    go true h _ = eqb-true w 0 h
-    go false _ k = true≠false refl k
-
-pub any_lacking : (g : List ℕ) (i : ℕ) (out : List ℕ) → ((k : ℕ) → Fits w64 (get_or out k 0))
-    → AnyLacking g i out (not (eqb (any_word (lack_word (get_or g (i * 9) 0) (get_or out 0 0)) (lack_word (get_or g (i * 9 + 1) 0) (get_or out 1 0)) (lack_word (get_or g (i * 9 + 2) 0) (get_or out 2 0)) (lack_word (get_or g (i * 9 + 3) 0) (get_or out 3 0)) (lack_word (get_or g (i * 9 + 4) 0) (get_or out 4 0)) (lack_word (get_or g (i * 9 + 5) 0) (get_or out 5 0)) (lack_word (get_or g (i * 9 + 6) 0) (get_or out 6 0)) (lack_word (get_or g (i * 9 + 7) 0) (get_or out 7 0))) 0))
-unfolding holds
-any_lacking g i out f = record { none = λ e j. sym ((lacking_is g i out f).each j) ∙ any_at _ _ _ _ _ _ _ _ (j / 64) (j % 64) (none-zero _ e) }
+  pub lack-done : ((j : ℕ) → Fits w64 (get_or out j 0)) → 8 ≤ k → AnyLacking g i out (not (eqb all 0))
+  unfolding lacks holds
+  lack-done f m = record {
+    none = λ e j. by (ltb j 512)
+        (λ y. let l : j < 512 = ltb-true j 512 y in
+        ap (λ (t : Bool). t && not (bit (get_or out (j / 64) 0) (j % 64))) (edge-is g i j l)
+        ∙ sym (lack-bit (get_or g (i * 9 + j / 64) 0) (get_or out (j / 64) 0) (j % 64) (f (j / 64)) (omega arith))
+        ∙ h.none (j / 64) (j % 64) (omega arith) (ap (λ (w : ℕ). bit w (j % 64)) (none-zero all e) ∙ bit-zero (j % 64)))
+        (λ y. let l : 512 ≤ j = ltb-false j 512 y in ap (λ (t : Bool). t && not (bit (get_or out (j / 64) 0) (j % 64))) (edge-past g i j l));
+  }
+    where
+      none-zero : (w : ℕ) → not (eqb w 0) ≡ false → w ≡ 0
+      none-zero w e = by (eqb w 0) (λ y. eqb-true w 0 y) (λ y. true≠false (ap not y) e)
 
 pub any-past : (g : List ℕ) (i : ℕ) (out : List ℕ) → length g ≡ 4608 → 512 ≤ i → AnyLacking g i out false
 unfolding lacks
 any-past g i out e l = record { none = λ _ j. ap (λ (t : Bool). t && not (holds out j)) (edge-out g i j e l) }
 
-pub ruleset any_lacking_laws = (any_lacking, any-past)
+pub ruleset any_lacking_laws = (lack-start, lack-next, lack-done, any-past)

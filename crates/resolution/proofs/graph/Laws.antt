@@ -15,8 +15,7 @@ use borrow.Rule.Slice.PartMut.{put_mid, set_mid_at}
 use Rattle.records.specs.Bytes.{same_bytes}
 use Rattle.records.specs.Name.{all_unnamed}
 use Rattle.records.specs.Finder.{is_at}
-use Rattle.records.specs.declared.finder.Found.{Found}
-use Rattle.records.specs.declared.finder.Found.TheVariants.{At, Nothing}
+use Rattle.records.specs.Finder.{Found}
 use Rattle.resolution.specs.Lists.{Name}
 use Rattle.records.proofs.Logic.{by}
 use Rattle.resolution.specs.Configuration.{with_read}
@@ -26,9 +25,10 @@ use Rattle.resolution.specs.Readability.{Below, edges_of, unnamed_from, WithEdge
 use Rattle.resolution.proofs.row.Bits.{bit-low, bit-or, bit-pow}
 use Rattle.resolution.proofs.graph.Edges.{edge-is, edge-past, edge-added, edge-ninth}
 use Rattle.resolution.proofs.readability.Laws.{at-below}
+use Rattle.std.specs.Prelude.{Some, None}
 
 -- where the row of a member starts, and where its ninth word stands, are numbers of 64 bits
-module _ (source : Found) (i : ℕ) (b : Below source) (e : source ≡ At i) where
+module _ (source : Found) (i : ℕ) (b : Below source) (e : source ≡ Some i) where
   pub start_fits : Fits w64 (i * 9)
   start_fits = record { fits = omega (arith, at-below source i b e) }
 
@@ -70,7 +70,7 @@ unnamed-same : (rows : List ℕ) (more : ℕ → Bool) → ((k : ℕ) → more k
 unnamed-same rows more h = record { each = λ k. rw (h k) (sym (or-false (unnamed_edge rows k))); small = λ k s. s; edges = λ i j. refl }
 
 module _ (source : Found) (target : Name) (rows : List ℕ) (t : Bool) (et : t ≡ same_bytes target all_unnamed) where
-  pub unnamed-at : (i : ℕ) → length rows ≡ 4608 → Below source → source ≡ At i → t ≡ true → WithUnnamed rows (unnamed_from source target) (set rows (i * 9 + 8) 1)
+  pub unnamed-at : (i : ℕ) → length rows ≡ 4608 → Below source → source ≡ Some i → t ≡ true → WithUnnamed rows (unnamed_from source target) (set rows (i * 9 + 8) 1)
   unfolding unnamed_from is_at
   unnamed-at i n b e y = record {
     each = λ k. bits-here rows i n (at-below source i b e) k ∙ rw (e, ← et, y) (ap (λ (z : Bool). unnamed_edge rows k || z) (sym (and-true (eqb k i))));
@@ -78,7 +78,7 @@ module _ (source : Found) (target : Name) (rows : List ℕ) (t : Bool) (et : t �
     edges = edges-here rows i n (at-below source i b e);
   }
 
-  pub unnamed-nothing : source ≡ Nothing → WithUnnamed rows (unnamed_from source target) rows
+  pub unnamed-nothing : source ≡ None → WithUnnamed rows (unnamed_from source target) rows
   unfolding unnamed_from is_at
   unnamed-nothing e = unnamed-same rows (unnamed_from source target) (λ k. rw e)
 
@@ -86,7 +86,7 @@ module _ (source : Found) (target : Name) (rows : List ℕ) (t : Bool) (et : t �
   unfolding unnamed_from
   unnamed-other f = unnamed-same rows (unnamed_from source target) (λ k. rw (← et, f) (and-false (is_at source k)))
 
-pub unnamed-inside : (rows : List ℕ) (source : Found) (i : ℕ) → length rows ≡ 4608 → Below source → source ≡ At i → i * 9 + 8 < length rows
+pub unnamed-inside : (rows : List ℕ) (source : Found) (i : ℕ) → length rows ≡ 4608 → Below source → source ≡ Some i → i * 9 + 8 < length rows
 unnamed-inside rows source i n b e = omega (arith, n, at-below source i b e)
 
 pub ruleset unnamed-laws = (fits-laws, unnamed-at, unnamed-nothing, unnamed-other, unnamed-inside, at-below)
@@ -94,7 +94,7 @@ pub ruleset unnamed-laws = (fits-laws, unnamed-at, unnamed-nothing, unnamed-othe
 -- ---- an edge: the row of its source is lent
 
 module _ (i : ℕ) (target : Found) (before : List ℕ) (n : length before ≡ 4608) (li : i < 512) where
-  row-lent : (j : ℕ) (row : List ℕ) → Below target → target ≡ At j → row ≡ with_read (take 8 (drop (i * 9) before)) j
+  row-lent : (j : ℕ) (row : List ℕ) → Below target → target ≡ Some j → row ≡ with_read (take 8 (drop (i * 9) before)) j
       → WithEdges before (edges_of i (is_at target)) (put_mid (i * 9) 8 before row)
   unfolding edges_of is_at with_read
   row-lent j row c f r =
@@ -130,7 +130,7 @@ module _ (i : ℕ) (target : Found) (before : List ℕ) (n : length before ≡ 4
       stored : put_mid (i * 9) 8 before row ≡ set before (i * 9 + j / 64) v
       stored = ap (put_mid (i * 9) 8 before) row_is ∙ set_mid_at (i * 9) 8 (j / 64) before v (omega (arith, part-long, lj))
 
-  pub edge_at : (j : ℕ) (row : List ℕ) → Below target → target ≡ At j → row ≡ with_read (take (i * 9 + 8 - i * 9) (drop (i * 9) before)) j
+  pub edge_at : (j : ℕ) (row : List ℕ) → Below target → target ≡ Some j → row ≡ with_read (take (i * 9 + 8 - i * 9) (drop (i * 9) before)) j
       → WithEdges before (edges_of i (is_at target)) (put_mid (i * 9) (i * 9 + 8 - i * 9) before row)
   edge_at j row c f r =
       let z : i * 9 + 8 - i * 9 ≡ 8 = omega arith in
@@ -140,7 +140,7 @@ module _ (i : ℕ) (target : Found) (before : List ℕ) (n : length before ≡ 4
   pub edge-inside : i * 9 + 8 ≤ length before
   edge-inside = omega (arith, n, li)
 
-pub edge-nothing : (i : ℕ) (target : Found) (before : List ℕ) → target ≡ Nothing → WithEdges before (edges_of i (is_at target)) before
+pub edge-nothing : (i : ℕ) (target : Found) (before : List ℕ) → target ≡ None → WithEdges before (edges_of i (is_at target)) before
 unfolding edges_of is_at
 edge-nothing i target before e = record { each = λ x y. rw (e, and-false (eqb x i)) (sym (or-false (edge before x y))); ninths = λ k. refl }
 

@@ -1,4 +1,4 @@
--- Rows where they lie: the eight words of one are written and read, and all words are cleared.
+-- Rows where they lie: the eight words of one are written and read.
 use mathlib.Core.Path.{◌≡◌, sym, ap, ◌∙◌, subst}
 use mathlib.Core.List.{List, ◌++◌}
 use Prim.Native.Nat.{ℕ, ◌+◌, ◌*◌, ◌-◌, ◌/◌, ◌%◌, ◌≤◌, ◌<◌}
@@ -6,36 +6,18 @@ use native.Mathlib.Omega.{arith}
 use native.Mathlib.Nat.{eq-or-lt_of_le}
 use mathlib.Core.Logic.{⊎_elim}
 use lib.Dec.{eqb, ltb}
-use lib.ListN.{length, get_or, take, drop, set, replicate, length-set, length-replicate, get_or-append}
-use lib.Seq.{length-take-le, get_or-append-add, get_or-take, get_or-drop, get_or-set_same, get_or-set_other, ext_get_or}
+use lib.ListN.{length, get_or, take, drop, get_or-append}
+use lib.Seq.{length-take-le, get_or-append-add, get_or-take, get_or-drop}
 use borrow.Author.Tests.{eqb-true, eqb-false, ltb-true, ltb-false}
 use Rattle.records.specs.Output.{written}
 use Rattle.records.proofs.Logic.{by}
-use Rattle.records.proofs.output.Written.{PutAt, put-start, put-more, put-done}
 use Rattle.resolution.specs.Row.{bit, holds}
-use Rattle.resolution.specs.Graph.{edge, ninth, Successors}
+use Rattle.resolution.specs.Graph.{edge, ninth}
 use Rattle.resolution.specs.Readability.{RowSet}
-use Rattle.resolution.proofs.row.Laws.{holds-out, zero-at}
-use Rattle.resolution.proofs.graph.Edges.{edge-is, edge-past, row_of, row-edges}
+use Rattle.resolution.proofs.row.Laws.{holds-out}
+use Rattle.resolution.proofs.graph.Edges.{edge-is, edge-past}
 
 -- ---- words written among others
-
-pub put-end : (o : List ℕ) (at : ℕ) (s out : List ℕ) (i : ℕ) → PutAt o at s out i → length s ≡ 8 → 8 ≤ i → out ≡ written o at s
-put-end o at s out i h n l = (put-done o at s out i h (omega (arith, n))).bytes
-
-pub put-room : (o : List ℕ) (at : ℕ) (s : List ℕ) → at + 8 ≤ length o → length s ≡ 8 → PutAt o at s o 0
-put-room o at s h n = put-start o at s (omega (arith, n))
-
-pub put_next : (o : List ℕ) (at : ℕ) (s out : List ℕ) (i : ℕ) → PutAt o at s out i → length s ≡ 8 → i < 8 → PutAt o at s (set out (at + i) (get_or s i 0)) (i + 1)
-put_next o at s out i h n l = put-more o at s out i h (omega (arith, n))
-
-pub put-inside : (o : List ℕ) (at : ℕ) (s out : List ℕ) (i : ℕ) → PutAt o at s out i → length s ≡ 8 → i < 8 → at + i < length out
-put-inside o at s out i h n l = omega (arith, n, h.room, h.long)
-
-pub put_same : (o : List ℕ) (at : ℕ) (s out : List ℕ) (i : ℕ) → PutAt o at s out i → length out ≡ length o
-put_same o at s out i h = h.long
-
-pub ruleset put-row-laws = (put-room, put_next, put-inside, put_same, put-end)
 
 module _ (o : List ℕ) (at : ℕ) (s : List ℕ) (room : at + length s ≤ length o) where
   front : length (take at o) ≡ at
@@ -106,38 +88,6 @@ set-row-room g i n l = omega (arith, n)
 
 pub ruleset set-row-laws = (set-row-is, set-row-room)
 
-pub row-of_in : (g : List ℕ) (i : ℕ) → Successors g i (row_of g i)
-row-of_in g i = record { each = row-edges g i }
-
--- ---- all words 0
-
-pub record ClearAt (rows : List ℕ) (k : ℕ) : Type 0 where
-  pub within : k ≤ 4608
-  pub long : length rows ≡ 4608
-  pub so_far : (i : ℕ) → i < k → get_or rows i 0 ≡ 0
-
 pub below_next : (k i : ℕ) → i < k + 1 → {X : Type 0} → (i ≡ k → X) → ((i ≡ k → ⊥) → i < k → X) → X
 below_next k i h f g = by (eqb i k) (λ q. f (eqb-true i k q)) (λ q. let ne : i ≡ k → ⊥ = eqb-false i k q in
     ⊎_elim (λ (e : i ≡ k). f e) (λ l. g ne l) (eq-or-lt_of_le (omega arith)))
-
-pub clear_start : (rows : List ℕ) → length rows ≡ 4608 → ClearAt rows 0
-clear_start rows n = record { within = omega arith; long = n; so_far = λ i l. absurd (omega arith) }
-
-module _ (rows : List ℕ) (k : ℕ) (h : ClearAt rows k) where
-  pub clear_next : k < 4608 → ClearAt (set rows k 0) (k + 1)
-  clear_next l = record {
-    within = omega arith;
-    long = length-set rows k 0 ∙ h.long;
-    so_far = λ i z. below_next k i z
-        (λ e. ap (λ (x : ℕ). get_or (set rows k 0) x 0) e ∙ get_or-set_same rows k 0 0 (omega (arith, h.long)))
-        (λ ne b. get_or-set_other rows k i 0 0 ne ∙ h.so_far i b);
-  }
-
-  pub clear_inside : k < 4608 → k < length rows
-  clear_inside l = omega (arith, h.long)
-
-  pub clear_end : 4608 ≤ k → rows ≡ replicate 4608 0
-  clear_end l = ext_get_or 0 rows (replicate 4608 0) (h.long ∙ sym (length-replicate {A = ℕ} 4608 0))
-      (λ i b. h.so_far i (omega (arith, h.long)) ∙ sym (zero-at 4608 i))
-
-pub ruleset clear_laws = (clear_start, clear_next, clear_inside, clear_end)

@@ -1,7 +1,7 @@
 -- The names of the request's LM in order.
 use Prim.Native.Nat.{ℕ, zero, suc, ◌+◌, ◌-◌, ◌^◌, ◌≤◌, ◌<◌}
-use mathlib.Core.Path.{◌≡◌, refl, sym, ◌∙◌, ap}
-use mathlib.Core.Bool.{Bool, true, false, or-true}
+use mathlib.Core.Path.{◌≡◌, refl, sym, ◌∙◌, ap, subst}
+use mathlib.Core.Bool.{Bool, true, ◌||◌, or-true}
 use mathlib.Core.List.{List, [], ◌∷◌, map}
 use native.Mathlib.Omega.{arith}
 use lib.Dec.{ltb, leb}
@@ -10,19 +10,21 @@ use lib.Seq.{drop-drop, take-take}
 use borrow.Author.Tests.{leb-true}
 use Rattle.records.specs.Bytes.{same_bytes, u16_at}
 use Rattle.records.specs.Name.{java_base, printable, name_of, after_name, is_field, is_name, is_names, is_list, names_of, list_of, mem_name}
-use Rattle.records.specs.Order.{name_in, NamesInserted}
+use Rattle.std.specs.Prelude.{Some, None}
+use Rattle.records.specs.Order.{name_in, is_ordered, NamesInserted}
 use Rattle.records.specs.Record.{bodies, next_of}
 use Rattle.records.specs.Request.{limit_of, request_of, within_limit, is_permitted}
-use Rattle.records.specs.declared.record.Cursor.{Cursor}
 use Rattle.records.specs.declared.record.Kind.TheVariants as Kind
-use Rattle.records.specs.declared.record.Next.{Next}
-use Rattle.records.specs.declared.record.Next.TheVariants.{Body, Nothing}
+use Rattle.records.specs.Record.{Next}
 use Rattle.records.proofs.Logic.{and_left, and_right, clash}
 use Rattle.records.proofs.order.Laws.{drop-take}
 use Rattle.records.proofs.order.Ordered.{from-mem}
 use Rattle.records.proofs.record.Bodies.{bodies-next, bodies-end}
+use Rattle.resolution.specs.Lists.{Name}
 use Rattle.resolution.specs.Known.{Limited, LimitTold}
 use Rattle.resolution.proofs.modules.Shared.{take-few}
+use Rattle.std.specs.Prelude.{Some, None, is_some}
+use Rattle.records.specs.declared.record.Span.{Span}
 
 -- ---- names that end where their list does
 
@@ -57,53 +59,55 @@ names_same (suc k) m u h =
 -- ---- whether there is an LM
 
 module _ (s : List ℕ) (r : Next) (er : r ≡ next_of Kind.LimitModules s 0) where
-  pub limited-some : (start len : ℕ) (next : Cursor) → r ≡ Body start len next → Limited s true
-  limited-some start len next e = record { free = λ z. clash (cc) }
-
-  pub limited-none : r ≡ Nothing → Limited s false
+  pub limited_told : (q : Bool) → q ≡ is_some r → Limited s q
   unfolding is_permitted request_of limit_of within_limit
-  limited-none e = record { free = λ z x. rw (bodies-end Kind.LimitModules s 0 r er e) (or-true (same_bytes x java_base)) }
+  limited_told q eq = go r refl
+    where
+      go : (x : Next) → r ≡ x → Limited s q
+      go (Some span) e = record { free = λ z. clash (let w : q ≡ true = eq ∙ ap is_some e in cc) }
+      go None e = record { free = λ z x. rw (bodies-end Kind.LimitModules s 0 r er e) (or-true (same_bytes x java_base)) }
 
   -- ---- its names
 
-  module _ (start len : ℕ) (next : Cursor) (e : r ≡ Body start len next) (b : List ℕ) (eb : b ≡ take len (drop start s)) (t : Bool) (et : t ≡ is_list b) (k : t ≡ true) where
-    long : 2 ≤ length (take len (drop start s))
+  module _ (span : Span) (e : r ≡ Some span) (b : List ℕ) (eb : b ≡ take span.len (drop span.start s)) (t : Bool) (et : t ≡ is_list b) (k : t ≡ true) where
+    long : 2 ≤ length (take span.len (drop span.start s))
     unfolding is_list
     long = rw eb at (leb-true 2 (length b) (and_left (leb 2 (length b)) (is_names (u16_at b 0) (drop 2 b)) (sym et ∙ k)))
 
-    inside : start + 2 ≤ length s
-    inside = omega (arith, long, take-few len (drop start s), length-drop start s)
+    inside : span.start + 2 ≤ length s
+    inside = omega (arith, long, take-few span.len (drop span.start s), length-drop span.start s)
 
-    pub limits-from : length s ≤ 65535 → start + 2 ≤ 65535
+    pub limits-from : length s ≤ 65535 → span.start + 2 ≤ 65535
     limits-from h = omega (arith, inside, h)
 
-    pub limits-fits : length s ≤ 65535 → start + 2 < 2 ^ 64
+    pub limits-fits : length s ≤ 65535 → span.start + 2 < 2 ^ 64
     limits-fits h = omega (arith, inside, h)
 
-    list-is : list_of b ≡ names_of (u16_at b 0) (drop (start + 2) s)
+    list-is : list_of b ≡ names_of (u16_at b 0) (drop (span.start + 2) s)
     unfolding list_of is_list
     list-is =
-        let cut : drop 2 b ≡ take (len - 2) (drop (start + 2) s) = ap (drop 2) eb ∙ drop-take 2 len (drop start s) ∙ ap (take (len - 2)) (drop-drop 2 start s) in
-        let good : is_names (u16_at b 0) (take (len - 2) (drop (start + 2) s)) ≡ true =
+        let cut : drop 2 b ≡ take (span.len - 2) (drop (span.start + 2) s) = ap (drop 2) eb ∙ drop-take 2 span.len (drop span.start s) ∙ ap (take (span.len - 2)) (drop-drop 2 span.start s) in
+        let good : is_names (u16_at b 0) (take (span.len - 2) (drop (span.start + 2) s)) ≡ true =
         rw cut at (and_right (leb 2 (length b)) (is_names (u16_at b 0) (drop 2 b)) (sym et ∙ k)) in
-        ap (names_of (u16_at b 0)) cut ∙ names_same (u16_at b 0) (len - 2) (drop (start + 2) s) good
+        ap (names_of (u16_at b 0)) cut ∙ names_same (u16_at b 0) (span.len - 2) (drop (span.start + 2) s) good
 
     pub limits-told : (n : ℕ) → n ≡ u16_at b 0 → (before table : List ℕ) (count : ℕ) → n ≤ length before → count ≤ n
-        → NamesInserted s (names_of n (drop (start + 2) s)) before table 0 count → LimitTold s table (record { count = count; known = true })
+        → NamesInserted s (names_of n (drop (span.start + 2) s)) before table 0 count → LimitTold s table (Some count)
     unfolding is_permitted request_of limit_of within_limit mem_name
     limits-told n en before table count w few j = record {
-      room = omega (arith, w, few, j.long);
-      sorted = λ z. j.sorted;
-      permits = λ z x.
-          let f : bodies Kind.LimitModules s ≡ take len (drop start s) ∷ bodies Kind.LimitModules (drop next.at s) = bodies-next Kind.LimitModules s 0 r er start len next e (omega arith) in
-          let m : mem_name x (map (name_in s) (take count table)) ≡ mem_name x (list_of b) =
-          ap (mem_name x) j.names_are ∙ from-mem x [] (names_of n (drop (start + 2) s)) ∙ ap (mem_name x) (ap (λ (i : ℕ). names_of i (drop (start + 2) s)) en ∙ sym list-is) in
-          rw (f, ← eb, m);
+      room = λ m z. let q : count ≡ m = cc in omega (arith, w, few, j.long);
+      sorted = λ m z. let q : count ≡ m = cc in subst (λ (i : ℕ). is_ordered (map (name_in s) (take i table)) ≡ true) q j.sorted;
+      permits = λ m z. let q : count ≡ m = cc in subst (λ (i : ℕ). (x : Name) → (same_bytes x java_base || mem_name x (map (name_in s) (take i table))) ≡ is_permitted (request_of s) x) q permits;
     }
+      where
+        permits : (x : Name) → (same_bytes x java_base || mem_name x (map (name_in s) (take count table))) ≡ is_permitted (request_of s) x
+        permits x =
+            let f : bodies Kind.LimitModules s ≡ take span.len (drop span.start s) ∷ bodies Kind.LimitModules (drop span.next.at s) = bodies-next Kind.LimitModules s 0 r er span.start span.len span.next e (omega arith) in
+            let m : mem_name x (map (name_in s) (take count table)) ≡ mem_name x (list_of b) =
+            ap (mem_name x) j.names_are ∙ from-mem x [] (names_of n (drop (span.start + 2) s)) ∙ ap (mem_name x) (ap (λ (i : ℕ). names_of i (drop (span.start + 2) s)) en ∙ sym list-is) in
+            rw (f, ← eb, m)
 
-pub limits-unknown : (s table : List ℕ) → LimitTold s table (record { count = 0; known = false })
-limits-unknown s table = record { room = omega arith; sorted = λ z. clash (cc); permits = λ z. clash (cc) }
-
-pub ruleset limited-laws = (limited-some, limited-none)
+pub limits-unknown : (s table : List ℕ) → LimitTold s table None
+limits-unknown s table = record { room = λ n z. clash (cc); sorted = λ n z. clash (cc); permits = λ n z. clash (cc) }
 
 pub ruleset limits-laws = (limits-from, limits-fits, limits-told, limits-unknown)

@@ -6,18 +6,17 @@ use mathlib.Core.List.{List, [], ◌∷◌, map}
 use Prim.Native.Nat.{ℕ, ◌+◌, ◌-◌, ◌≤◌, ◌<◌}
 use native.Mathlib.Omega.{arith}
 use native.Mathlib.Numerals.{add-one}
-use lib.ListN.{length, get_or, take, drop, drop_of_length-le, length-take}
-use lib.Seq.{drop-cons, get_or-take}
+use Rattle.std.specs.List.{list_any}
+use lib.ListN.{length, get_or, take, drop, drop_of_length-le}
+use lib.Seq.{drop-cons}
 use Rattle.records.specs.Bytes.{same_bytes}
 use Rattle.records.specs.Name.{mem_name, name_of}
 use Rattle.records.specs.Record.{bodies, next_of}
 use Rattle.records.specs.Descriptor.{requirement_of}
 use Rattle.records.specs.Request.{request_of}
 use Rattle.records.specs.Set.{block_at}
-use Rattle.records.specs.declared.finder.Found.{Found}
-use Rattle.records.specs.declared.finder.Found.TheVariants.{At, Nothing}
-use Rattle.records.specs.declared.record.Cursor.{Cursor}
-use Rattle.records.specs.declared.record.Next.{Next}
+use Rattle.records.specs.Finder.{Found}
+use Rattle.records.specs.Record.{Next}
 use Rattle.records.specs.declared.record.Kind.{Kind}
 use Rattle.records.proofs.Logic.{clash, by}
 use Rattle.records.proofs.record.Bodies.{bodies-next, bodies-end, next-room, next-less}
@@ -26,63 +25,56 @@ use Rattle.resolution.specs.Resolver.{Inputs, block_of, names_of, has_named, req
 use Rattle.resolution.specs.Filter.{is_marked, Covers, asked, asked_before, found_of, first_named, requires_in, is_required}
 use Rattle.resolution.proofs.Lists.{any_in, any_out, first_in, first_out}
 use Rattle.resolution.proofs.filter.Covers.{covers-not}
+use Rattle.std.specs.Prelude.{Some, None}
+use Rattle.records.specs.declared.record.Span.{Span}
 
 -- ---- the positions from k on
 
-module _ (ps : List ℕ) (n k : ℕ) where
-  pub rest_more : k < n → k < length ps → drop k (take n ps) ≡ get_or ps k 0 ∷ drop (k + 1) (take n ps)
-  rest_more l m =
-      let q : k < length (take n ps) = rw length-take (omega arith) in
-      drop-cons (take n ps) k 0 q ∙ rw (get_or-take n ps k 0 l, add-one k)
+module _ (ps : List ℕ) (k : ℕ) where
+  pub rest-next : k < length ps → drop k ps ≡ get_or ps k 0 ∷ drop (k + 1) ps
+  rest-next m = drop-cons ps k 0 m ∙ rw (add-one k)
 
-  pub rest-past : length ps ≤ k → drop k (take n ps) ≡ []
-  rest-past l = drop_of_length-le (take n ps) {i = k} (rw length-take (omega arith))
-
-  pub rest-none : n ≤ k → drop k (take n ps) ≡ []
-  rest-none l = drop_of_length-le (take n ps) {i = k} (rw length-take (omega arith))
+  pub rest-end : length ps ≤ k → drop k ps ≡ []
+  rest-end l = drop_of_length-le ps {i = k} l
 
 -- ---- the first module with a name
 
 -- none of those before k has it
-pub record WithAt (set starts ps : List ℕ) (n : ℕ) (kind : Kind) (name : Name) (k : ℕ) : Type 0 where
-  pub left : first_named (asked set starts) kind (take n ps) name ≡ first_named (asked set starts) kind (drop k (take n ps)) name
+pub record WithAt (set starts ps : List ℕ) (kind : Kind) (name : Name) (k : ℕ) : Type 0 where
+  pub left : first_named (asked set starts) kind ps name ≡ first_named (asked set starts) kind (drop k ps) name
 
-pub with-start : (set starts ps : List ℕ) (n : ℕ) (kind : Kind) (name : Name) → WithAt set starts ps n kind name 0
-with-start set starts ps n kind name = record { left = refl }
+pub with-start : (set starts ps : List ℕ) (kind : Kind) (name : Name) → WithAt set starts ps kind name 0
+with-start set starts ps kind name = record { left = refl }
 
-module _ (set starts ps : List ℕ) (n : ℕ) (kind : Kind) (name : Name) (k : ℕ) (h : WithAt set starts ps n kind name k) where
-  module _ (l : k < n) (m : k < length ps) (b : List ℕ) (eb : b ≡ block_at set starts (get_or ps k 0)) (r : Bool)
+module _ (set starts ps : List ℕ) (kind : Kind) (name : Name) (k : ℕ) (h : WithAt set starts ps kind name k) where
+  module _ (m : k < length ps) (b : List ℕ) (eb : b ≡ block_at set starts (get_or ps k 0)) (r : Bool)
       (er : r ≡ mem_name name (map name_of (bodies kind b))) where
-    with-turn : first_named (asked set starts) kind (take n ps) name
-        ≡ cond r (some (get_or ps k 0)) (first_named (asked set starts) kind (drop (k + 1) (take n ps)) name)
+    with-turn : first_named (asked set starts) kind ps name
+        ≡ cond r (some (get_or ps k 0)) (first_named (asked set starts) kind (drop (k + 1) ps) name)
     unfolding first_named first names_of block_of
-    with-turn = h.left ∙ rw (rest_more ps n k l m, ← eb, ← er)
+    with-turn = h.left ∙ rw (rest-next ps k m, ← eb, ← er)
 
-    pub with-here : r ≡ true → At (get_or ps k 0) ≡ found_of (first_named (asked set starts) kind (take n ps) name)
+    pub with-here : r ≡ true → Some (get_or ps k 0) ≡ found_of (first_named (asked set starts) kind ps name)
     unfolding found_of
     with-here t = sym (rw (with-turn, t))
 
-    pub with-more : r ≡ false → WithAt set starts ps n kind name (k + 1)
+    pub with-more : r ≡ false → WithAt set starts ps kind name (k + 1)
     with-more t = record { left = with-turn ∙ rw t }
 
-  pub with-past : length ps ≤ k → Nothing ≡ found_of (first_named (asked set starts) kind (take n ps) name)
+  pub with_none : length ps ≤ k → None ≡ found_of (first_named (asked set starts) kind ps name)
   unfolding found_of first_named first
-  with-past l = sym (rw (h.left, rest-past ps n k l))
+  with_none l = sym (rw (h.left, rest-end ps k l))
 
-  pub with_none : n ≤ k → Nothing ≡ found_of (first_named (asked set starts) kind (take n ps) name)
-  unfolding found_of first_named first
-  with_none l = sym (rw (h.left, rest-none ps n k l))
-
-pub ruleset with-laws = (with-start, with-here, with-more, with-past, with_none)
+pub ruleset with_laws = (with-start, with-here, with-more, with_none)
 
 -- ---- what was found
 
-pub found_some : (o : Option ℕ) (i : ℕ) → found_of o ≡ At i → o ≡ some i
+pub found_some : (o : Option ℕ) (i : ℕ) → found_of o ≡ Some i → o ≡ some i
 unfolding found_of
 found_some none i e = clash (cc)
 found_some (some j) i e = let q : j ≡ i = cc in ap (λ (x : ℕ). some x) q
 
-pub found_none : (o : Option ℕ) → found_of o ≡ Nothing → o ≡ none
+pub found_none : (o : Option ℕ) → found_of o ≡ None → o ≡ none
 unfolding found_of
 found_none none e = refl
 found_none (some j) e = clash (cc)
@@ -111,10 +103,10 @@ module _ (w : Inputs) (k : Kind) (ps : List ℕ) (n : Name) where
           clash (cc)
 
   module _ (r : Found) (er : r ≡ found_of (first_named w k ps n)) where
-    pub named-yes : (i : ℕ) → r ≡ At i → true ≡ has_named w k ps n
+    pub named-yes : (i : ℕ) → r ≡ Some i → true ≡ has_named w k ps n
     named-yes i e = sym (first_has i (found_some (first_named w k ps n) i (sym er ∙ e)))
 
-    pub named-no : r ≡ Nothing → false ≡ has_named w k ps n
+    pub named-no : r ≡ None → false ≡ has_named w k ps n
     named-no e = sym (first-lacks (found_none (first_named w k ps n) (sym er ∙ e)))
 
   pub named-unmarked : (words : List ℕ) (r : Bool) → Covers w k words ps → r ≡ is_marked words n → r ≡ false → false ≡ has_named w k ps n
@@ -130,15 +122,15 @@ pub record BodyAt (q : List ℕ → Bool) (k : Kind) (b : List ℕ) (at : ℕ) :
   pub left : any q (bodies k b) ≡ any q (bodies k (drop at b))
 
 module _ (q : List ℕ → Bool) (k : Kind) (b : List ℕ) (at : ℕ) (h : BodyAt q k b at) (r : Next) (er : r ≡ next_of k b at) where
-  module _ (start len : ℕ) (next : Cursor) (e : r ≡ Next.Body start len next) where
-    pub body-turn : any q (bodies k b) ≡ q (take len (drop start b)) || any q (bodies k (drop next.at b))
+  module _ (span : Span) (e : r ≡ Some span) where
+    pub body-turn : any q (bodies k b) ≡ q (take span.len (drop span.start b)) || any q (bodies k (drop span.next.at b))
     unfolding any
-    body-turn = h.left ∙ rw (bodies-next k b at r er start len next e h.within)
+    body-turn = h.left ∙ rw (bodies-next k b at r er span.start span.len span.next e h.within)
 
-    pub body_more : q (take len (drop start b)) ≡ false → BodyAt q k b next.at
-    body_more f = record { within = next-room k b at r er start len next e h.within; left = body-turn ∙ rw f }
+    pub body_more : q (take span.len (drop span.start b)) ≡ false → BodyAt q k b span.next.at
+    body_more f = record { within = next-room k b at r er span.start span.len span.next e h.within; left = body-turn ∙ rw f }
 
-  pub body-done : r ≡ Next.Nothing → any q (bodies k b) ≡ false
+  pub body-done : r ≡ None → any q (bodies k b) ≡ false
   unfolding any
   body-done e = h.left ∙ rw (bodies-end k b at r er e)
 
@@ -146,38 +138,6 @@ pub any-map : {A B : Type 0} (f : A → B) (q : B → Bool) (l : List A) → any
 unfolding any
 any-map f q [] = refl
 any-map f q (x ∷ l) = rw (any-map f q l)
-
--- ---- services
-
--- none of those before k uses it
-pub record UsedAt (set starts ps : List ℕ) (from to : ℕ) (name : Name) (k : ℕ) : Type 0 where
-  pub left : has_named (asked set starts) Kind.Uses (drop from (take to ps)) name ≡ has_named (asked set starts) Kind.Uses (drop k (take to ps)) name
-
-pub used_start : (set starts ps : List ℕ) (from to : ℕ) (name : Name) → UsedAt set starts ps from to name from
-used_start set starts ps from to name = record { left = refl }
-
-module _ (set starts ps : List ℕ) (from to : ℕ) (name : Name) (k : ℕ) (h : UsedAt set starts ps from to name k) where
-  module _ (l : k < to) (m : k < length ps) (b : List ℕ) (eb : b ≡ block_at set starts (get_or ps k 0)) (r : Bool)
-      (er : r ≡ mem_name name (map name_of (bodies Kind.Uses b))) where
-    used_turn : has_named (asked set starts) Kind.Uses (drop from (take to ps)) name ≡ r || has_named (asked set starts) Kind.Uses (drop (k + 1) (take to ps)) name
-    unfolding has_named any names_of block_of
-    used_turn = h.left ∙ rw (rest_more ps to k l m, ← eb, ← er)
-
-    pub used-here : r ≡ true → true ≡ has_named (asked set starts) Kind.Uses (drop from (take to ps)) name
-    used-here t = sym (used_turn ∙ rw t)
-
-    pub used-more : r ≡ false → UsedAt set starts ps from to name (k + 1)
-    used-more t = record { left = used_turn ∙ rw t }
-
-  pub used-past : length ps ≤ k → false ≡ has_named (asked set starts) Kind.Uses (drop from (take to ps)) name
-  unfolding has_named any
-  used-past l = sym (h.left ∙ rw (rest-past ps to k l))
-
-  pub used-none : to ≤ k → false ≡ has_named (asked set starts) Kind.Uses (drop from (take to ps)) name
-  unfolding has_named any
-  used-none l = sym (h.left ∙ rw (rest-none ps to k l))
-
-pub ruleset used-laws = (used_start, used-here, used-more, used-past, used-none)
 
 -- ---- requirements
 
@@ -190,7 +150,7 @@ module _ (b n : List ℕ) (s : Bool) (es : s ≡ (requirement_of b).static) wher
   unfolding requires_name
   requires-is m r f em er = rw (← es, f, ← em, ← er)
 
-pub ruleset requires-laws = (requires_static, requires-is)
+pub ruleset requires_laws = (requires_static, requires-is)
 
 pub record RequiresAt (b n : List ℕ) (at : ℕ) : Type 0 where
   pub walk : BodyAt (requires_name n) Kind.Requires b at
@@ -199,53 +159,40 @@ pub block_start : (b n : List ℕ) → RequiresAt b n 0
 block_start b n = record { walk = record { within = omega arith; left = refl } }
 
 module _ (b n : List ℕ) (at : ℕ) (h : RequiresAt b n at) (r : Next) (er : r ≡ next_of Kind.Requires b at) where
-  module _ (start len : ℕ) (next : Cursor) (e : r ≡ Next.Body start len next) where
-    pub block-less : length b - next.at < length b - at
-    block-less = next-less Kind.Requires b at r er start len next e h.walk.within
+  module _ (span : Span) (e : r ≡ Some span) where
+    pub block-less : length b - span.next.at < length b - at
+    block-less = next-less Kind.Requires b at r er span.start span.len span.next e h.walk.within
 
-    pub block_here : (x : List ℕ) (t : Bool) → x ≡ take len (drop start b) → t ≡ requires_name n x → t ≡ true → true ≡ requires_in b n
+    pub block_here : (x : List ℕ) (t : Bool) → x ≡ take span.len (drop span.start b) → t ≡ requires_name n x → t ≡ true → true ≡ requires_in b n
     unfolding requires_in
-    block_here x t ex et y = sym (body-turn (requires_name n) Kind.Requires b at h.walk r er start len next e ∙ rw (← ex, ← et, y))
+    block_here x t ex et y = sym (body-turn (requires_name n) Kind.Requires b at h.walk r er span e ∙ rw (← ex, ← et, y))
 
-    pub block_more : (x : List ℕ) (t : Bool) → x ≡ take len (drop start b) → t ≡ requires_name n x → t ≡ false → RequiresAt b n next.at
+    pub block_more : (x : List ℕ) (t : Bool) → x ≡ take span.len (drop span.start b) → t ≡ requires_name n x → t ≡ false → RequiresAt b n span.next.at
     block_more x t ex et y = record {
-      walk = body_more (requires_name n) Kind.Requires b at h.walk r er start len next e (rw (← ex, ← et, y));
+      walk = body_more (requires_name n) Kind.Requires b at h.walk r er span e (rw (← ex, ← et, y));
     }
 
-  pub block-done : r ≡ Next.Nothing → false ≡ requires_in b n
+  pub block-done : r ≡ None → false ≡ requires_in b n
   unfolding requires_in
   block-done e = sym (body-done (requires_name n) Kind.Requires b at h.walk r er e)
 
-pub ruleset block-laws = (block_start, block-less, block_here, block_more, block-done)
+pub ruleset block_laws = (block_start, block-less, block_here, block_more, block-done)
 
--- no module before position k of the array requires the name
-pub record RequiredAt (set starts ps : List ℕ) (n : ℕ) (name : Name) (k : ℕ) : Type 0 where
-  pub left : is_required (asked set starts) (take n ps) name ≡ is_required (asked set starts) (drop k (take n ps)) name
+-- ---- one of the modules at the positions
 
-pub required-start : (set starts ps : List ℕ) (n : ℕ) (name : Name) → RequiredAt set starts ps n name 0
-required-start set starts ps n name = record { left = refl }
+pub any_is : (q : ℕ → Bool) (ps : List ℕ) → list_any q ps ≡ any q ps
+unfolding any
+any_is q [] = refl
+any_is q (p ∷ ps) = rw (any_is q ps)
 
-module _ (set starts ps : List ℕ) (n : ℕ) (name : Name) (k : ℕ) (h : RequiredAt set starts ps n name k) where
-  module _ (l : k < n) (m : k < length ps) (b : List ℕ) (eb : b ≡ block_at set starts (get_or ps k 0)) (r : Bool) (er : r ≡ requires_in b name) where
-    required-turn : is_required (asked set starts) (take n ps) name ≡ r || is_required (asked set starts) (drop (k + 1) (take n ps)) name
-    unfolding is_required any block_of
-    required-turn = h.left ∙ rw (rest_more ps n k l m, ← eb, ← er)
+pub used_any : (set starts ps : List ℕ) (name : Name) → list_any (λ i. mem_name name (map name_of (bodies Kind.Uses (block_at set starts i)))) ps
+    ≡ has_named (asked set starts) Kind.Uses ps name
+unfolding has_named names_of block_of
+used_any set starts ps name = any_is (λ i. mem_name name (map name_of (bodies Kind.Uses (block_at set starts i)))) ps
 
-    pub required-here : r ≡ true → true ≡ is_required (asked set starts) (take n ps) name
-    required-here t = sym (required-turn ∙ rw t)
-
-    pub required-more : r ≡ false → RequiredAt set starts ps n name (k + 1)
-    required-more t = record { left = required-turn ∙ rw t }
-
-  pub required-past : length ps ≤ k → false ≡ is_required (asked set starts) (take n ps) name
-  unfolding is_required any
-  required-past l = sym (h.left ∙ rw (rest-past ps n k l))
-
-  pub required-none : n ≤ k → false ≡ is_required (asked set starts) (take n ps) name
-  unfolding is_required any
-  required-none l = sym (h.left ∙ rw (rest-none ps n k l))
-
-pub ruleset required-laws = (required-start, required-here, required-more, required-past, required-none)
+pub required_any : (set starts ps : List ℕ) (name : Name) → list_any (λ i. requires_in (block_at set starts i) name) ps ≡ is_required (asked set starts) ps name
+unfolding is_required block_of
+required_any set starts ps name = any_is (λ i. requires_in (block_at set starts i) name) ps
 
 -- ---- a name that was met
 
@@ -258,4 +205,4 @@ module _ (set request starts before : List ℕ) (name : Name) (r : Bool) (er : r
   unfolding is_met_before request_of is_required requires_in block_of
   met-required q f eq = eq ∙ rw (← er, f)
 
-pub ruleset met-laws = (met-root, met-required)
+pub ruleset met_laws = (met-root, met-required)

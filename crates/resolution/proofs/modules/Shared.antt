@@ -1,6 +1,6 @@
 -- The test of a module's packages: the least that one of the modules at the positions has.
 use mathlib.Core.Path.{◌≡◌, refl, sym, ap, ◌∙◌, subst}
-use mathlib.Core.Bool.{Bool, true, false, not, ◌&&◌, ◌||◌, cond}
+use mathlib.Core.Bool.{Bool, true, false, ◌&&◌, cond}
 use mathlib.Core.Option.{Option, none, some}
 use mathlib.Core.List.Memᴰ
 use mathlib.Core.List.{List, [], ◌∷◌, ◌++◌, map, flat_map}
@@ -14,8 +14,7 @@ use Rattle.records.specs.Name.{name_of, mem_name}
 use Rattle.records.specs.Order.{name_in, is_ordered, packages_of, PackagesOrdered}
 use Rattle.records.specs.Record.{bodies, next_of}
 use Rattle.records.specs.Set.{block_at}
-use Rattle.records.specs.declared.record.Cursor.{Cursor}
-use Rattle.records.specs.declared.record.Next.{Next}
+use Rattle.records.specs.Record.{Next}
 use Rattle.records.specs.declared.record.Kind.TheVariants as Kind
 use Rattle.records.proofs.bytes.Laws.{same-eq}
 use Rattle.records.proofs.bytes.Order.{before_irrefl, before-trans, before-total, before-one-way}
@@ -27,12 +26,14 @@ use Rattle.records.proofs.Logic.{by, true≠false}
 use Rattle.resolution.specs.Lists.{Name, Mem, any, keep}
 use Rattle.resolution.specs.Owner.{least, lesser}
 use Rattle.resolution.specs.Resolver.{block_of, names_of, has_named, split_of, split_at}
-use Rattle.resolution.specs.Filter.{is_marked, MarkedAll, Covers, least_of, lesser_of, least_in, asked}
-use Rattle.resolution.specs.declared.modules.Least.{Least}
+use Rattle.resolution.specs.Filter.{is_marked, MarkedAll, Covers, least_of, lesser_of, least_in, is_less, asked}
+use Rattle.records.specs.Finder.{Found}
 use Rattle.resolution.specs.declared.resolver.Halt.{Halt}
 use Rattle.resolution.proofs.Lists.{mem_name_in, mem_name-out, any_in, any_out, any-no, keep_in, keep_out, flat_in, flat_out}
 use Rattle.resolution.proofs.filter.Covers.{covers-not}
-use Rattle.resolution.proofs.modules.Laws.{rest_more, rest-past, rest-none}
+use Rattle.resolution.proofs.modules.Laws.{rest-next, rest-end}
+use Rattle.records.specs.declared.record.Span.{Span}
+use Rattle.std.specs.Prelude.{Some, None}
 
 -- ---- the lesser of names
 
@@ -83,29 +84,37 @@ unfolding least_in
 in-append table a b =
     ap least (keep_append (λ n. mem_name n table) a b) ∙ least-append (keep (λ n. mem_name n table) a) (keep (λ n. mem_name n table) b)
 
--- ---- whether the table has the name, and it stands before the least so far
+-- ---- whether the name stands before the least so far
 
-module _ (u found : Bool) (m best : Name) (t : Bool) (et : t ≡ u) where
-  pub lesser-not : t ≡ false → false ≡ (u && (not found || before_bytes m best))
-  lesser-not y = rw (← et, y)
+module _ (set : List ℕ) (o : Found) (m : Name) where
+  pub less_some : (e : ℕ) (x : Name) (r : Bool) → o ≡ Some e → x ≡ name_in set e → r ≡ before_bytes m x → r ≡ is_less set o m
+  unfolding is_less
+  less_some e x r eo ex er = rw eo (er ∙ ap (before_bytes m) ex)
 
-  pub lesser-first : t ≡ true → found ≡ false → true ≡ (u && (not found || before_bytes m best))
-  lesser-first y f = rw (← et, y, f)
+  pub less_none : o ≡ None → true ≡ is_less set o m
+  unfolding is_less
+  less_none eo = rw eo
 
-  pub lesser-is : (r : Bool) (x : Name) → t ≡ true → found ≡ true → x ≡ best → r ≡ before_bytes m x → r ≡ (u && (not found || before_bytes m best))
-  lesser-is r x y f ex er = rw (← et, y, f, ← ex, ← er)
+pub ruleset less_laws = (less_some, less_none)
 
-pub ruleset lesser-laws = (lesser-not, lesser-first, lesser-is)
+-- whether the table has it too
+pub lesser_not : (t u r : Bool) → t ≡ u → t ≡ false → false ≡ (u && r)
+lesser_not t u r e f = rw (← e, f)
+
+pub lesser_is : (t u r l : Bool) → t ≡ u → r ≡ l → t ≡ true → r ≡ (u && l)
+lesser_is t u r l e k f = rw (← e, f) k
+
+pub ruleset lesser_laws = (lesser_not, lesser_is)
 
 -- one package more: `u` says that the table has it
-turned : (u found : Bool) (m best : Name) (rest : List Name) → lesser_of (cond found (some best) none) (least (cond u (m ∷ rest) rest))
-    ≡ lesser_of (cond (u && (not found || before_bytes m best)) (some m) (cond found (some best) none)) (least rest)
-unfolding lesser_of least
-turned false found m best rest = refl
-turned true false m best rest = refl
-turned true true m best rest = lesser-both best m (least rest) ∙ go (before_bytes m best)
+turned : (set : List ℕ) (u : Bool) (o : Found) (m : Name) (rest : List Name) → lesser_of (least_of set o) (least (cond u (m ∷ rest) rest))
+    ≡ lesser_of (cond (u && is_less set o m) (some m) (least_of set o)) (least rest)
+unfolding lesser_of least least_of is_less
+turned set false o m rest = refl
+turned set true None m rest = refl
+turned set true (Some e) m rest = lesser-both (name_in set e) m (least rest) ∙ go (before_bytes m (name_in set e))
   where
-    go : (t : Bool) → lesser (cond t m best) (least rest) ≡ lesser_of (cond t (some m) (some best)) (least rest)
+    go : (t : Bool) → lesser (cond t m (name_in set e)) (least rest) ≡ lesser_of (cond t (some m) (some (name_in set e))) (least rest)
     go true = refl
     go false = refl
 
@@ -132,7 +141,7 @@ module _ (set : List ℕ) (size from start len : ℕ) (x m : List ℕ) (ex : x �
 -- ---- the walk over a module's packages
 
 -- the packages before `at` are looked at
-pub record ScanAt (set starts : List ℕ) (i : ℕ) (names : List Name) (source : List ℕ) (from : ℕ) (first : Least) (at : ℕ) (low : Least) : Type 0 where
+pub record ScanAt (set starts : List ℕ) (i : ℕ) (names : List Name) (source : List ℕ) (from : ℕ) (first : Found) (at : ℕ) (low : Found) : Type 0 where
   pub within : at ≤ length source
   pub short : length set ≤ 65535
   pub source_is : source ≡ block_at set starts i
@@ -140,24 +149,24 @@ pub record ScanAt (set starts : List ℕ) (i : ℕ) (names : List Name) (source 
   pub left : lesser_of (least_of set first) (least_in names (map name_of (bodies Kind.Package source)))
       ≡ lesser_of (least_of set low) (least_in names (map name_of (bodies Kind.Package (drop at source))))
 
-pub scan-start : (set starts : List ℕ) (i : ℕ) (names : List Name) (source : List ℕ) (from : ℕ) (low : Least) → length set ≤ 65535 → source ≡ block_at set starts i
+pub scan-start : (set starts : List ℕ) (i : ℕ) (names : List Name) (source : List ℕ) (from : ℕ) (low : Found) → length set ≤ 65535 → source ≡ block_at set starts i
     → from ≡ get_or starts i 0 → ScanAt set starts i names source from low 0 low
 scan-start set starts i names source from low s es ef = record { within = omega arith; short = s; source_is = es; from_is = ef; left = refl }
 
-module _ (set starts : List ℕ) (i : ℕ) (names : List Name) (source : List ℕ) (from : ℕ) (first : Least) (at : ℕ) (low : Least)
+module _ (set starts : List ℕ) (i : ℕ) (names : List Name) (source : List ℕ) (from : ℕ) (first : Found) (at : ℕ) (low : Found)
     (h : ScanAt set starts i names source from first at low) (r : Next) (er : r ≡ next_of Kind.Package source at) where
-  module _ (start len : ℕ) (next : Cursor) (e : r ≡ Next.Body start len next) where
-    pub scan-less : length source - next.at < length source - at
-    scan-less = next-less Kind.Package source at r er start len next e h.within
+  module _ (span : Span) (e : r ≡ Some span) where
+    pub scan-less : length source - span.next.at < length source - at
+    scan-less = next-less Kind.Package source at r er span.start span.len span.next e h.within
 
-    inside : from + start ≤ 65535
+    inside : from + span.start ≤ 65535
     unfolding block_at
     inside =
         omega (
           arith,
-          next-later Kind.Package source at r er start len next e,
-          next-room Kind.Package source at r er start len next e h.within,
-          body-room Kind.Package source at r er start len next e h.within,
+          next-later Kind.Package source at r er span.start span.len span.next e,
+          next-room Kind.Package source at r er span.start span.len span.next e h.within,
+          body-room Kind.Package source at r er span.start span.len span.next e h.within,
           ap length h.source_is,
           length-take (get_or starts (i + 1) 0 - get_or starts i 0) (drop (get_or starts i 0) set),
           length-drop (get_or starts i 0) set,
@@ -166,58 +175,58 @@ module _ (set starts : List ℕ) (i : ℕ) (names : List Name) (source : List �
         )
 
     -- the entry is a number of 64 bits
-    pub scan-first : from + start < 2 ^ 64
+    pub scan-first : from + span.start < 2 ^ 64
     scan-first = omega (arith, inside)
 
-    pub scan-second : from + start + 1 < 2 ^ 64
+    pub scan-second : from + span.start + 1 < 2 ^ 64
     scan-second = omega (arith, inside)
 
-    pub scan-high : (from + start + 1) * 65536 < 2 ^ 64
+    pub scan-high : (from + span.start + 1) * 65536 < 2 ^ 64
     scan-high = omega (arith, inside)
 
-    module _ (x m : List ℕ) (ex : x ≡ take len (drop start source)) (em : m ≡ name_of x) where
-      in-set : x ≡ take len (drop start (take (get_or starts (i + 1) 0 - from) (drop from set)))
+    module _ (x m : List ℕ) (ex : x ≡ take span.len (drop span.start source)) (em : m ≡ name_of x) where
+      in-set : x ≡ take span.len (drop span.start (take (get_or starts (i + 1) 0 - from) (drop from set)))
       unfolding block_at
-      in-set = ex ∙ ap (λ (s : List ℕ). take len (drop start s)) h.source_is ∙ rw h.from_is
+      in-set = ex ∙ ap (λ (s : List ℕ). take span.len (drop span.start s)) h.source_is ∙ rw h.from_is
 
-      pub scan-entry : (from + start + 1) * 65536 + length m < 2 ^ 64
-      scan-entry = omega (arith, inside, name-short set (get_or starts (i + 1) 0 - from) from start len x m in-set em, h.short)
+      pub scan-entry : (from + span.start + 1) * 65536 + length m < 2 ^ 64
+      scan-entry = omega (arith, inside, name-short set (get_or starts (i + 1) 0 - from) from span.start span.len x m in-set em, h.short)
 
-      module _ (t : Bool) (et : t ≡ (mem_name m names && (not low.found || before_bytes m (name_in set low.entry)))) where
+      module _ (t : Bool) (et : t ≡ (mem_name m names && is_less set low m)) where
         scan-turn : lesser_of (least_of set first) (least_in names (map name_of (bodies Kind.Package source)))
-            ≡ lesser_of (cond t (some m) (least_of set low)) (least_in names (map name_of (bodies Kind.Package (drop next.at source))))
+            ≡ lesser_of (cond t (some m) (least_of set low)) (least_in names (map name_of (bodies Kind.Package (drop span.next.at source))))
         unfolding least_of least_in keep
         scan-turn =
-            h.left ∙ rw (bodies-next Kind.Package source at r er start len next e h.within, ← ex, ← em, et)
-            (turned (mem_name m names) low.found m (name_in set low.entry) (keep (λ n. mem_name n names) (map name_of (bodies Kind.Package (drop next.at source)))))
+            h.left ∙ rw (bodies-next Kind.Package source at r er span.start span.len span.next e h.within, ← ex, ← em, et)
+            (turned set (mem_name m names) low m (keep (λ n. mem_name n names) (map name_of (bodies Kind.Package (drop span.next.at source)))))
 
-        pub scan-lesser : t ≡ true → ScanAt set starts i names source from first next.at (record { found = true; entry = (from + start + 1) * 65536 + length m })
+        pub scan-lesser : t ≡ true → ScanAt set starts i names source from first span.next.at (Some ((from + span.start + 1) * 65536 + length m))
         unfolding least_of
         scan-lesser y = record {
-          within = next-room Kind.Package source at r er start len next e h.within;
+          within = next-room Kind.Package source at r er span.start span.len span.next e h.within;
           short = h.short;
           source_is = h.source_is;
           from_is = h.from_is;
-          left = scan-turn ∙ rw (y, entry-name set (get_or starts (i + 1) 0 - from) from start len x m in-set em h.short);
+          left = scan-turn ∙ rw (y, entry-name set (get_or starts (i + 1) 0 - from) from span.start span.len x m in-set em h.short);
         }
 
-        pub scan-other : t ≡ false → ScanAt set starts i names source from first next.at low
+        pub scan-other : t ≡ false → ScanAt set starts i names source from first span.next.at low
         scan-other y = record {
-          within = next-room Kind.Package source at r er start len next e h.within;
+          within = next-room Kind.Package source at r er span.start span.len span.next e h.within;
           short = h.short;
           source_is = h.source_is;
           from_is = h.from_is;
           left = scan-turn ∙ rw y;
         }
 
-  pub scan-done : r ≡ Next.Nothing → least_of set low ≡ lesser_of (least_of set first) (least_in names (names_of (asked set starts) Kind.Package i))
+  pub scan-done : r ≡ None → least_of set low ≡ lesser_of (least_of set first) (least_in names (names_of (asked set starts) Kind.Package i))
   unfolding names_of block_of least_in keep least
   scan-done e =
       let z : lesser_of (least_of set first) (least_in names (map name_of (bodies Kind.Package source))) ≡ least_of set low =
       h.left ∙ rw (bodies-end Kind.Package source at r er e) (lesser-none (least_of set low)) in
       sym z ∙ ap (λ (s : List ℕ). lesser_of (least_of set first) (least_in names (map name_of (bodies Kind.Package s)))) h.source_is
 
-pub ruleset scan-laws = (scan-start, scan-less, scan-first, scan-second, scan-high, scan-entry, scan-lesser, scan-other, scan-done)
+pub ruleset scan_laws = (scan-start, scan-less, scan-first, scan-second, scan-high, scan-entry, scan-lesser, scan-other, scan-done)
 
 -- ---- the modules at the positions
 
@@ -226,33 +235,29 @@ abbrev pub theirs : List ℕ → List ℕ → List ℕ → List Name
 theirs set starts ps = flat_map (names_of (asked set starts) Kind.Package) ps
 
 -- those of the modules before k are looked at
-pub record SharedAt (set starts ps : List ℕ) (n : ℕ) (names : List Name) (low : Least) (k : ℕ) : Type 0 where
-  pub left : least_in names (theirs set starts (take n ps)) ≡ lesser_of (least_of set low) (least_in names (theirs set starts (drop k (take n ps))))
+pub record SharedAt (set starts ps : List ℕ) (names : List Name) (low : Found) (k : ℕ) : Type 0 where
+  pub left : least_in names (theirs set starts ps) ≡ lesser_of (least_of set low) (least_in names (theirs set starts (drop k ps)))
 
-pub shared_start : (set starts ps : List ℕ) (n : ℕ) (names : List Name) → SharedAt set starts ps n names (record { found = false; entry = 0 }) 0
+pub shared_start : (set starts ps : List ℕ) (names : List Name) → SharedAt set starts ps names None 0
 unfolding least_of lesser_of
-shared_start set starts ps n names = record { left = refl }
+shared_start set starts ps names = record { left = refl }
 
-module _ (set starts ps : List ℕ) (n : ℕ) (names : List Name) (low : Least) (k : ℕ) (h : SharedAt set starts ps n names low k) where
-  pub shared-more : (r : Least) → k < n → k < length ps
-      → least_of set r ≡ lesser_of (least_of set low) (least_in names (names_of (asked set starts) Kind.Package (get_or ps k 0))) → SharedAt set starts ps n names r (k + 1)
+module _ (set starts ps : List ℕ) (names : List Name) (low : Found) (k : ℕ) (h : SharedAt set starts ps names low k) where
+  pub shared-more : (r : Found) → k < length ps
+      → least_of set r ≡ lesser_of (least_of set low) (least_in names (names_of (asked set starts) Kind.Package (get_or ps k 0))) → SharedAt set starts ps names r (k + 1)
   unfolding flat_map
-  shared-more r l m er = record {
-    left = h.left ∙ rw (rest_more ps n k l m)
-        (ap (lesser_of (least_of set low)) (in-append names (names_of (asked set starts) Kind.Package (get_or ps k 0)) (theirs set starts (drop (k + 1) (take n ps))))
-        ∙ sym (lesser-then (least_of set low) (least_in names (names_of (asked set starts) Kind.Package (get_or ps k 0))) (least_in names (theirs set starts (drop (k + 1) (take n ps)))))
-        ∙ ap (λ (o : Option Name). lesser_of o (least_in names (theirs set starts (drop (k + 1) (take n ps))))) (sym er));
+  shared-more r m er = record {
+    left = h.left ∙ rw (rest-next ps k m)
+        (ap (lesser_of (least_of set low)) (in-append names (names_of (asked set starts) Kind.Package (get_or ps k 0)) (theirs set starts (drop (k + 1) ps)))
+        ∙ sym (lesser-then (least_of set low) (least_in names (names_of (asked set starts) Kind.Package (get_or ps k 0))) (least_in names (theirs set starts (drop (k + 1) ps))))
+        ∙ ap (λ (o : Option Name). lesser_of o (least_in names (theirs set starts (drop (k + 1) ps)))) (sym er));
   }
 
-  pub shared-past : length ps ≤ k → least_of set low ≡ least_in names (theirs set starts (take n ps))
+  pub shared-none : length ps ≤ k → least_of set low ≡ least_in names (theirs set starts ps)
   unfolding least_in keep least flat_map
-  shared-past l = sym (h.left ∙ rw (rest-past ps n k l) (lesser-none (least_of set low)))
+  shared-none l = sym (h.left ∙ rw (rest-end ps k l) (lesser-none (least_of set low)))
 
-  pub shared-none : n ≤ k → least_of set low ≡ least_in names (theirs set starts (take n ps))
-  unfolding least_in keep least flat_map
-  shared-none l = sym (h.left ∙ rw (rest-none ps n k l) (lesser-none (least_of set low)))
-
-pub ruleset shared_laws = (shared_start, shared-more, shared-past, shared-none)
+pub ruleset shared_laws = (shared_start, shared-more, shared-none)
 
 -- ---- the least depends only on which names there are
 
@@ -363,21 +368,21 @@ module _ (b before table : List ℕ) (count : ℕ) (o : PackagesOrdered b before
         keep_in (λ n. mem_name n names) (named-theirs set starts ps x r.1)
         (subst (λ (l : List Name). mem_name x l ≡ true) (sym o.names_are) (ordered_keeps x (packages_of b) (mem_name_in r.0))))
 
-    module _ (p : ℕ) (l : Least) (el : least_of set l ≡ least_in (map (name_in b) (take count table)) (theirs set starts ps)) where
-      pub split-found : (q : Halt) (m : Name) → l.found ≡ true → m ≡ name_in set l.entry → q ≡ split_of (asked set starts) ps p (some m)
+    module _ (p : ℕ) (l : Found) (el : least_of set l ≡ least_in (map (name_in b) (take count table)) (theirs set starts ps)) where
+      pub split-found : (q : Halt) (entry : ℕ) (m : Name) → l ≡ Some entry → m ≡ name_in set entry → q ≡ split_of (asked set starts) ps p (some m)
           → q ≡ split_of (asked set starts) ps p (least (shared_in set starts ps b))
       unfolding least_of
-      split-found q m f em eq =
+      split-found q entry m f em eq =
           let z : least_of set l ≡ some m = rw (f, em) in
           eq ∙ ap (split_of (asked set starts) ps p) (sym z ∙ el ∙ shared_same)
 
-      pub split-none : l.found ≡ false → Halt.Open ≡ split_of (asked set starts) ps p (least (shared_in set starts ps b))
+      pub split-none : l ≡ None → Halt.Open ≡ split_of (asked set starts) ps p (least (shared_in set starts ps b))
       unfolding least_of split_of
       split-none f =
           let z : least_of set l ≡ none = rw f in
           ap (split_of (asked set starts) ps p) (sym z ∙ el ∙ shared_same)
 
-pub ruleset split-laws = (split-sorted, split-few, split-found, split-none)
+pub ruleset split_laws = (split-sorted, split-few, split-found, split-none)
 
 -- ---- the test by the filter
 
@@ -386,8 +391,8 @@ unfolding keep
 keep-none p [] f = refl
 keep-none p (x ∷ l) f = rw (f x (Memᴰ.head refl)) (keep-none p l (λ n m. f n (Memᴰ.tail m)))
 
-module _ (set starts ps b : List ℕ) (n p : ℕ) (eb : b ≡ block_at set starts p) where
-  pub split-is : (q : Halt) → q ≡ split_of (asked set starts) (take n ps) p (least (shared_in set starts (take n ps) b)) → q ≡ split_at (asked set starts) (take n ps) p
+module _ (set starts ps b : List ℕ) (p : ℕ) (eb : b ≡ block_at set starts p) where
+  pub split-is : (q : Halt) → q ≡ split_of (asked set starts) ps p (least (shared_in set starts ps b)) → q ≡ split_at (asked set starts) ps p
   unfolding split_at names_of block_of
   split-is q eq = eq ∙ rw eb
 
@@ -396,17 +401,17 @@ module _ (set starts ps b : List ℕ) (n p : ℕ) (eb : b ≡ block_at set start
   split-short l = omega (arith, ap length eb, length-take (get_or starts (p + 1) 0 - get_or starts p 0) (drop (get_or starts p 0) set), length-drop (get_or starts p 0) set)
 
   -- none of the packages was marked
-  pub split-unmarked : (words : List ℕ) (met : Bool) → Covers (asked set starts) Kind.Package words (take n ps) → met ≡ false
-      → (met ≡ false → any (is_marked words) (map name_of (bodies Kind.Package b)) ≡ false) → Halt.Open ≡ split_at (asked set starts) (take n ps) p
+  pub split-unmarked : (words : List ℕ) (met : Bool) → Covers (asked set starts) Kind.Package words ps → met ≡ false
+      → (met ≡ false → any (is_marked words) (map name_of (bodies Kind.Package b)) ≡ false) → Halt.Open ≡ split_at (asked set starts) ps p
   unfolding split_of least
   split-unmarked words met c f u =
-      let z : shared_in set starts (take n ps) b ≡ [] =
-      keep-none (has_named (asked set starts) Kind.Package (take n ps)) (map name_of (bodies Kind.Package b))
-      (λ x m. covers-not (asked set starts) Kind.Package words (take n ps) x c (any-no (is_marked words) (u f) m)) in
+      let z : shared_in set starts ps b ≡ [] =
+      keep-none (has_named (asked set starts) Kind.Package ps) (map name_of (bodies Kind.Package b))
+      (λ x m. covers-not (asked set starts) Kind.Package words ps x c (any-no (is_marked words) (u f) m)) in
       split-is Halt.Open (sym (rw z))
 
   pub split-marks : (words words₁ : List ℕ) → MarkedAll words (map name_of (bodies Kind.Package b)) words₁ → MarkedAll words (names_of (asked set starts) Kind.Package p) words₁
   unfolding names_of block_of
   split-marks words words₁ m = rw (← eb) m
 
-pub ruleset test-laws = (split-is, split-short, split-unmarked, split-marks)
+pub ruleset test_laws = (split-is, split-short, split-unmarked, split-marks)

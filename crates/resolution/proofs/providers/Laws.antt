@@ -12,6 +12,7 @@ use Rattle.records.specs.Name.{mem_name, name_of}
 use Rattle.records.specs.Record.{bodies}
 use Rattle.records.specs.Set.{block_at}
 use Rattle.records.specs.declared.record.Kind.{Kind}
+use Rattle.records.proofs.order.Laws.{drop-take}
 use Rattle.records.proofs.Logic.{clash, by, or_left, or_right, true≠false}
 use Rattle.resolution.specs.Lists.{Name, any}
 use Rattle.resolution.specs.Row.{holds, count_below}
@@ -23,7 +24,8 @@ use Rattle.resolution.specs.declared.resolver.Halt.{Halt}
 use Rattle.resolution.specs.declared.resolver.Phase.{Phase}
 use Rattle.resolution.specs.declared.resolver.Queue.{Queue}
 use Rattle.resolution.specs.declared.resolver.Wanted.TheVariants.{Add}
-use Rattle.resolution.specs.declared.table.Listed.{Listed}
+use Rattle.std.specs.Prelude.{Option}
+use Rattle.resolution.specs.declared.table.Told.TheVariants.{Services}
 use Rattle.resolution.proofs.ResolverQueue.{any_append}
 use Rattle.resolution.proofs.ResolverRun.{any_same}
 use Rattle.resolution.proofs.modules.Asked.{provider_asked}
@@ -94,7 +96,7 @@ module _ (set starts ps : List ℕ) (phase : Phase) (i : ℕ) (r : Bool) (er : r
       eb ∙ ap (λ (y : List ℕ). any (has_named (asked set starts) Kind.Uses ps) (map name_of (bodies Kind.Provides y))) ex
       ∙ sym (provider_asked (inputs_of set [] starts [] phase) ps i ∙ rw (← er, e))
 
-pub ruleset bound-laws = (bound-not, bound_is)
+pub ruleset bound_laws = (bound-not, bound_is)
 
 -- ---- the modules of the set
 
@@ -150,13 +152,13 @@ module _ (set starts order : List ℕ) (phase : Phase) (to i : ℕ) (q : Queue) 
     pub due-there : r ≡ true → offered_at (inputs_of set [] starts [] phase) (take to order) i (line_at order q) ≡ line_at order q
     due-there e = offered_there (inputs_of set [] starts [] phase) (take to order) i (line_at order q) (unfold line_at in sym er ∙ e)
 
-    pub due-is : (from : ℕ) (table : List ℕ) (s : Listed) → Binding phase set starts order from to table s q → (b : Bool) → b ≡ is_provider_at (inputs_of set [] starts [] phase) (drop from (take to order)) i
+    pub due-is : (from : ℕ) (table : List ℕ) (s : Option ℕ) → Binding phase set starts order from to table s q → (b : Bool) → b ≡ is_provider_at (inputs_of set [] starts [] phase) (take (to - from) (drop from order)) i
         → r ≡ false → i < phase.count
         → offered_at (inputs_of set [] starts [] phase) (take to order) i (line_at order q) ≡ pick_line b (queued (Add i) (line_at order q)) (line_at order q)
     unfolding offered_at
     due-is from table s z b eb f l =
         ap (λ (c : Bool). pick_line c (queued (Add i) (line_at order q)) (line_at order q))
-        (sym (eb ∙ provider_rest (inputs_of set [] starts [] phase) order from to i z.behind
+        (sym (eb ∙ ap (λ (ps : List ℕ). is_provider_at (inputs_of set [] starts [] phase) ps i) (sym (drop-take from to order)) ∙ provider_rest (inputs_of set [] starts [] phase) order from to i z.behind
         (by (is_provider_at (inputs_of set [] starts [] phase) (take from order) i) (λ t. true≠false (z.bound_is.each i l t) (sym er ∙ f)) (λ t. t))))
 
   pub offer-within : i < phase.count → Within phase.count (Add i)
@@ -171,9 +173,23 @@ module _ (set starts order : List ℕ) (phase : Phase) (to i : ℕ) (q : Queue) 
         → Moved phase.count order₂ q₂ (offered_at (inputs_of set [] starts [] phase) (take to order) i (line_at order q))
     offer-add e order₂ q₂ m = record { line = m.line ∙ sym (eb ∙ ap (λ (c : Bool). pick_line c (queued (Add i) (line_at order q)) (line_at order q)) e); ready = m.ready }
 
-pub ruleset due-laws = (due-there, due-is)
+  -- the modules whose services the table tells
+  module _ (from : ℕ) (table : List ℕ) (s : Option ℕ) (z : Binding phase set starts order from to table s q) where
+    pub due-ready : Ready phase.count order q
+    due-ready = z.ready
 
-pub ruleset offer-laws = (offer-within, offer-pass, offer-add)
+    pub due-told : NamesTold Services set starts (take (to - from) (drop from order)) table s
+    due-told = subst (λ (ps : List ℕ). NamesTold Services set starts ps table s) (drop-take from to order) z.told
+
+    pub due-behind : from ≤ to
+    due-behind = z.behind
+
+    pub due-within : to ≤ length order
+    due-within = z.within
+
+pub ruleset due_laws = (due-there, due-is, due-ready, due-told, due-behind, due-within)
+
+pub ruleset offer_laws = (offer-within, offer-pass, offer-add)
 
 -- ---- all of them
 
@@ -251,7 +267,7 @@ provide_same set request starts old phase l =
     phase.count 0 l
 
 -- the modules below i are done; n modules were resolved before the round
-module _ (set starts : List ℕ) (phase : Phase) (from : ℕ) (table : List ℕ) (s : Listed) where
+module _ (set starts : List ℕ) (phase : Phase) (from : ℕ) (table : List ℕ) (s : Option ℕ) where
   abbrev w : Inputs
   w = inputs_of set [] starts [] phase
 
@@ -287,7 +303,7 @@ module _ (set starts : List ℕ) (phase : Phase) (from : ℕ) (table : List ℕ)
       told = record {
         room = h.before.told.room;
         sorted = h.before.told.sorted;
-        told = λ a x. h.before.told.told a x ∙ ap (λ (ps : List ℕ). tells_at false set starts (drop from ps) x) (sym same_front);
+        told = λ n a x. h.before.told.told n a x ∙ ap (λ (ps : List ℕ). tells_at Services set starts (drop from ps) x) (sym same_front);
       };
       bound_is = record {
         each = λ j l e.
@@ -295,6 +311,7 @@ module _ (set starts : List ℕ) (phase : Phase) (from : ℕ) (table : List ℕ)
             (h.before.bound_is.each j l (ap (λ (ps : List ℕ). is_provider_at w ps j) (sym (front from h.before.behind)) ∙ e));
       };
       behind = h.before.behind;
+      within = omega (arith, h.before.within, h.before.ready.long, h.ready.long);
     }
 
     module _ (l : i < phase.count) where
@@ -336,8 +353,14 @@ module _ (phase : Phase) (set starts order : List ℕ) (bound : ℕ) (q : Queue)
   pub bind-long : q.head ≤ length order
   bind-long = omega (arith, h.ready.waits, tail-long phase.count order q h.ready)
 
-  pub bind-told : (table : List ℕ) (s : Listed) → NamesTold false set starts order bound q.head table s → Binding phase set starts order bound q.head table s q
-  bind-told table s t = record { ready = h.ready; told = t; bound_is = h.bound_is; behind = h.behind }
+  pub bind-told : (table : List ℕ) (s : Option ℕ) → NamesTold Services set starts (take (q.head - bound) (drop bound order)) table s → Binding phase set starts order bound q.head table s q
+  bind-told table s t = record { ready = h.ready; told = subst (λ (ps : List ℕ). NamesTold Services set starts ps table s) (sym (drop-take bound q.head order)) t; bound_is = h.bound_is; behind = h.behind; within = bind-long }
+
+  pub bind-behind : bound ≤ q.head
+  bind-behind = h.behind
+
+  pub bind-short : length set ≤ 65535
+  bind-short = h.short
 
   -- every position is there, since there is no room for another
   all_there : phase.count ≡ q.tail → (i : ℕ) → i < phase.count → is_one_of i (take q.tail order) ≡ true
@@ -356,4 +379,4 @@ module _ (phase : Phase) (set starts order : List ℕ) (bound : ℕ) (q : Queue)
     ready = h.ready;
   }
 
-pub ruleset bind-laws = (bind-long, bind-told, bind_all)
+pub ruleset bind_laws = (bind-long, bind-told, bind-behind, bind-short, bind_all)

@@ -7,7 +7,7 @@ use native.Mathlib.Omega.{arith}
 use lib.ListN.{length}
 use borrow.Author.Tests.{not-true}
 use Rattle.records.proofs.Logic.{true≠false, and_left, and_right}
-use Rattle.resolution.specs.Row.{holds, Added, FirstFrom}
+use Rattle.resolution.specs.Row.{holds, Added, NoneFrom, First}
 use Rattle.resolution.specs.Graph.{edge, lacks, AnyLacking, Collected, ReachedFrom, unmarked}
 use Rattle.resolution.proofs.reach.Search.{Gathered, start, skip, visit, fewer, gather-start, gather-skip, gather-visit, gather-all}
 
@@ -37,40 +37,37 @@ pub collect-start : (g : List ℕ) (m : ℕ) (ws : List ℕ) → CollectAt g m w
 collect-start g m ws = record { within = omega arith; so_far = start g m ws }
 
 module _ {g : List ℕ} {m : ℕ} {before out : List ℕ} {k : ℕ} (h : CollectAt g m before out k) where
-  -- from k to the next successor j that is not marked
-  module _ (j : ℕ) (n : FirstFrom (lacks g m out) k 512 j) where
-    passed : Collected g m j before out
-    unfolding lacks
-    passed = skip g m k j before out h.so_far (λ i f l e. no-lack (edge g m i) (holds out i) (n.none i f l) e)
+  -- up to the next successor n that is not marked
+  passed : (n : ℕ) → ((i : ℕ) → k ≤ i → i < n → lacks g m out i ≡ false) → Collected g m n before out
+  unfolding lacks
+  passed n none = skip g m k n before out h.so_far (λ i f l e. no-lack (edge g m i) (holds out i) (none i f l) e)
 
-    -- there is none
-    pub collect-none : 512 ≤ j → Collected g m 512 before out
-    collect-none l = let q : j ≡ 512 = omega (arith, n.within) in subst (λ (i : ℕ). Collected g m i before out) q passed
+  -- there is none
+  pub collect-none : NoneFrom (lacks g m out) k 512 → Collected g m 512 before out
+  collect-none n = passed 512 n.none
 
+  module _ (j : ℕ) (n : First (lacks g m out) k 512 j) where
     -- j is marked now, and visited
-    pub collect-visit : (marked after : List ℕ) → j < 512 → Added out j marked → Collected g j 512 marked after
+    pub collect-visit : (marked after : List ℕ) → Added out j marked → Collected g j 512 marked after
         → CollectAt g m before after (j + 1)
     unfolding lacks
-    collect-visit marked after l w v = record {
-      within = omega arith;
-      so_far = visit g m j before out marked after passed (lack-edge (edge g m j) (holds out j) (n.found l)) (w.below l) v;
+    collect-visit marked after w v = record {
+      within = omega (arith, n.below);
+      so_far = visit g m j before out marked after (passed j n.none) (lack-edge (edge g m j) (holds out j) n.found) (w.below n.below) v;
     }
 
     -- j is marked now, and a visit would add nothing
-    pub collect-still : (marked : List ℕ) (r : Bool) → j < 512 → Added out j marked → AnyLacking g j marked r → r ≡ false
+    pub collect-still : (marked : List ℕ) (r : Bool) → Added out j marked → AnyLacking g j marked r → r ≡ false
         → CollectAt g m before marked (j + 1)
-    collect-still marked r l w a e = collect-visit marked marked l w (still g j marked r a e)
+    collect-still marked r w a e = collect-visit marked marked w (still g j marked r a e)
 
-    pub collect-fewer : (marked : List ℕ) (t : ℕ) → j < 512 → Added out j marked → unmarked before ≡ t → unmarked marked < t
+    pub collect-fewer : (marked : List ℕ) (t : ℕ) → Added out j marked → unmarked before ≡ t → unmarked marked < t
     unfolding lacks
-    collect-fewer marked t l w q =
+    collect-fewer marked t w q =
         subst (λ (x : ℕ). unmarked marked < x) q
-        (fewer g m j before out marked l passed (lack-mark (edge g m j) (holds out j) (n.found l)) (w.below l))
+        (fewer g m j before out marked n.below (passed j n.none) (lack-mark (edge g m j) (holds out j) n.found) (w.below n.below))
 
-  pub collect-end : 512 ≤ k → Collected g m 512 before out
-  collect-end l = let q : k ≡ 512 = omega (arith, h.within) in subst (λ (i : ℕ). Collected g m i before out) q h.so_far
-
-pub ruleset collect-laws = (collect-start, collect-none, collect-visit, collect-still, collect-fewer, collect-end)
+pub ruleset collect-laws = (collect-start, collect-none, collect-visit, collect-still, collect-fewer)
 
 -- the positions of `from` below k are visited
 pub record GatherAt (g from out : List ℕ) (k : ℕ) : Type 0 where
@@ -81,26 +78,19 @@ pub reach-start : (g from : List ℕ) → GatherAt g from from 0
 reach-start g from = record { within = omega arith; so_far = gather-start g from }
 
 module _ {g from out : List ℕ} {k : ℕ} (h : GatherAt g from out k) where
+  -- there is none from k on
+  pub reach-none : length g ≡ 4608 → NoneFrom (holds from) k 512 → ReachedFrom g from out
+  reach-none e n = gather-all g from out e (gather-skip g from k 512 out h.so_far n.none)
+
   -- from k to the next position m of the row
-  module _ (m : ℕ) (n : FirstFrom (holds from) k 512 m) where
-    gathered : Gathered g m from out
-    gathered = gather-skip g from k m out h.so_far n.none
+  module _ (m : ℕ) (n : First (holds from) k 512 m) where
+    pub reach-visit : (after : List ℕ) → Collected g m 512 out after → GatherAt g from after (m + 1)
+    reach-visit after v = record {
+      within = omega (arith, n.below);
+      so_far = gather-visit g from m out after (gather-skip g from k m out h.so_far n.none) n.found v;
+    }
 
-    -- there is none
-    pub reach-none : length g ≡ 4608 → 512 ≤ m → ReachedFrom g from out
-    reach-none e l =
-        let q : m ≡ 512 = omega (arith, n.within) in
-        gather-all g from out e (subst (λ (i : ℕ). Gathered g i from out) q gathered)
+    pub reach-still : (r : Bool) → AnyLacking g m out r → r ≡ false → GatherAt g from out (m + 1)
+    reach-still r a e = reach-visit out (still g m out r a e)
 
-    pub reach-visit : (after : List ℕ) → m < 512 → Collected g m 512 out after → GatherAt g from after (m + 1)
-    reach-visit after l v = record { within = omega arith; so_far = gather-visit g from m out after gathered (n.found l) v }
-
-    pub reach-still : (r : Bool) → m < 512 → AnyLacking g m out r → r ≡ false → GatherAt g from out (m + 1)
-    reach-still r l a e = reach-visit out l (still g m out r a e)
-
-  pub reach-end : length g ≡ 4608 → 512 ≤ k → ReachedFrom g from out
-  reach-end e l =
-      let q : k ≡ 512 = omega (arith, h.within) in
-      gather-all g from out e (subst (λ (i : ℕ). Gathered g i from out) q h.so_far)
-
-pub ruleset reach-laws = (reach-start, reach-none, reach-visit, reach-still, reach-end)
+pub ruleset reach-laws = (reach-start, reach-none, reach-visit, reach-still)

@@ -3,32 +3,30 @@ use mathlib.Core.Path.{◌≡◌, sym, ap, ◌∙◌}
 use mathlib.Core.Bool.{Bool, false, not, ◌&&◌}
 use mathlib.Core.List.{List}
 use Prim.Native.Nat.{ℕ, ◌≤◌}
-use native.Mathlib.Omega.{arith}
 use lib.ListN.{length}
-use Rattle.resolution.specs.Row.{holds, FirstFrom}
+use Rattle.resolution.specs.Row.{holds, NoneFrom, First}
 use Rattle.resolution.specs.Graph.{lacks, Lacking, AnyLacking}
 use Rattle.resolution.proofs.graph.Edges.{edge-out}
 
 -- the next position of the row of such edges is the next such edge
-pub next_lacking : (g : List ℕ) (i : ℕ) (out ws : List ℕ) (k r : ℕ) → Lacking g i out ws → FirstFrom (holds ws) k 512 r
-    → FirstFrom (lacks g i out) k 512 r
+pub next_lacking : (g : List ℕ) (i : ℕ) (out ws : List ℕ) (k r : ℕ) → Lacking g i out ws → First (holds ws) k 512 r
+    → First (lacks g i out) k 512 r
 next_lacking g i out ws k r h n = record {
   from = n.from;
-  within = n.within;
+  below = n.below;
   none = λ j f l. sym (h.each j) ∙ n.none j f l;
-  found = λ l. sym (h.each r) ∙ n.found l;
+  found = sym (h.each r) ∙ n.found;
 }
 
-pub no_edge : (g : List ℕ) (i : ℕ) (out : List ℕ) (k : ℕ) → length g ≡ 4608 → k ≤ 512 → 512 ≤ i → FirstFrom (lacks g i out) k 512 512
+pub no_lacking : (g : List ℕ) (i : ℕ) (out ws : List ℕ) (k : ℕ) → Lacking g i out ws → NoneFrom (holds ws) k 512
+    → NoneFrom (lacks g i out) k 512
+no_lacking g i out ws k h n = record { none = λ j f l. sym (h.each j) ∙ n.none j f l }
+
+pub no_edge : (g : List ℕ) (i : ℕ) (out : List ℕ) (k : ℕ) → length g ≡ 4608 → 512 ≤ i → NoneFrom (lacks g i out) k 512
 unfolding lacks
-no_edge g i out k e h l = record {
-  from = h;
-  within = omega arith;
-  none = λ j _ _. ap (λ (t : Bool). t && not (holds out j)) (edge-out g i j e l);
-  found = λ m. absurd (omega arith);
-}
+no_edge g i out k e l = record { none = λ j _ _. ap (λ (t : Bool). t && not (holds out j)) (edge-out g i j e l) }
 
-pub none_lacking : (g : List ℕ) (i : ℕ) (out : List ℕ) (k : ℕ) (r : Bool) → k ≤ 512 → AnyLacking g i out r → r ≡ false → FirstFrom (lacks g i out) k 512 512
-none_lacking g i out k r h a e = record { from = h; within = omega arith; none = λ j _ _. a.none e j; found = λ m. absurd (omega arith) }
+pub none_lacking : (g : List ℕ) (i : ℕ) (out : List ℕ) (k : ℕ) (r : Bool) → AnyLacking g i out r → r ≡ false → NoneFrom (lacks g i out) k 512
+none_lacking g i out k r a e = record { none = λ j _ _. a.none e j }
 
-pub ruleset next-edge-laws = (next_lacking, none_lacking, no_edge)
+pub ruleset next-edge-laws = (next_lacking, no_lacking, none_lacking, no_edge)

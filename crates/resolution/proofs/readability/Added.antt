@@ -10,25 +10,25 @@ use Rattle.records.specs.Name.{all_unnamed, name_of, after_name}
 use Rattle.records.specs.Record.{bodies, next_of}
 use Rattle.records.specs.Request.{read_of, request_of}
 use Rattle.records.specs.Finder.{find_name, is_at}
-use Rattle.records.specs.declared.finder.Found.{Found}
-use Rattle.records.specs.declared.finder.Found.TheVariants.{At, Nothing}
-use Rattle.records.specs.declared.record.Cursor.{Cursor}
-use Rattle.records.specs.declared.record.Next.{Next}
+use Rattle.records.specs.Finder.{Found}
+use Rattle.records.specs.Record.{Next}
 use Rattle.records.specs.declared.record.Kind.TheVariants as Kind
 use Rattle.records.proofs.record.Bodies.{bodies-next, bodies-end, next-room, next-less}
 use Rattle.resolution.specs.Lists.{Name, any}
 use Rattle.resolution.specs.Graph.{edge, ninth, unnamed_edge}
 use Rattle.resolution.specs.Readability.{member_of, is_named, edges_of, edge_from, unnamed_from, read_at, unnamed_in, WithEdges, WithUnnamed, ReadAdded, ReadsAdded}
 use Rattle.resolution.proofs.readability.Laws.{at-below, member_below}
+use Rattle.std.specs.Prelude.{Some, None}
+use Rattle.records.specs.declared.record.Span.{Span}
 
 -- ---- an AR to a member
 
 module _ (source target : Found) (before : List ℕ) where
-  pub read_at_lem : (i : ℕ) (after : List ℕ) → source ≡ At i → WithEdges before (edges_of i (is_at target)) after → WithEdges before (edge_from source target) after
+  pub read_at_lem : (i : ℕ) (after : List ℕ) → source ≡ Some i → WithEdges before (edges_of i (is_at target)) after → WithEdges before (edge_from source target) after
   unfolding edge_from edges_of is_at
   read_at_lem i after e w = record { each = λ x y. w.each x y ∙ rw e; ninths = w.ninths }
 
-  pub read-nothing : source ≡ Nothing → WithEdges before (edge_from source target) before
+  pub read-nothing : source ≡ None → WithEdges before (edge_from source target) before
   unfolding edge_from is_at
   read-nothing e = record { each = λ x y. rw e (sym (or-false (edge before x y))); ninths = λ k. refl }
 
@@ -65,24 +65,24 @@ module _ (l : List Name) (ws q before after : List ℕ) (at : ℕ) (h : AddAt l 
   add-long = h.long
 
   module _ (r : Next) (er : r ≡ next_of Kind.AddReads q at) where
-    module _ (start len : ℕ) (next : Cursor) (e : r ≡ Next.Body start len next) where
-      pub add-next : (body after₂ : List ℕ) → body ≡ take len (drop start q)
-          → ReadAdded l ws (read_of body) after after₂ → length after₂ ≡ length after → AddAt l ws q before after₂ next.at
+    module _ (span : Span) (e : r ≡ Some span) where
+      pub add-next : (body after₂ : List ℕ) → body ≡ take span.len (drop span.start q)
+          → ReadAdded l ws (read_of body) after after₂ → length after₂ ≡ length after → AddAt l ws q before after₂ span.next.at
       unfolding read_at unnamed_in any
       add-next body after₂ eb w n = record {
-        within = next-room Kind.AddReads q at r er start len next e h.within;
+        within = next-room Kind.AddReads q at r er span.start span.len span.next e h.within;
         long = n ∙ h.long;
-        edges = λ i j. h.edges i j ∙ rw (bodies-next Kind.AddReads q at r er start len next e h.within, ← eb, w.edges i j)
-            (sym (or_assoc (edge after i j) (is_named l ws (read_of body).source i && is_named l ws (read_of body).target j) (read_at l ws (map read_of (bodies Kind.AddReads (drop next.at q))) i j)));
-        named = λ k. h.named k ∙ rw (bodies-next Kind.AddReads q at r er start len next e h.within, ← eb, w.named k)
-            (sym (or_assoc (unnamed_edge after k) (is_named l ws (read_of body).source k && same_bytes (read_of body).target all_unnamed) (unnamed_in l ws (map read_of (bodies Kind.AddReads (drop next.at q))) k)));
+        edges = λ i j. h.edges i j ∙ rw (bodies-next Kind.AddReads q at r er span.start span.len span.next e h.within, ← eb, w.edges i j)
+            (sym (or_assoc (edge after i j) (is_named l ws (read_of body).source i && is_named l ws (read_of body).target j) (read_at l ws (map read_of (bodies Kind.AddReads (drop span.next.at q))) i j)));
+        named = λ k. h.named k ∙ rw (bodies-next Kind.AddReads q at r er span.start span.len span.next e h.within, ← eb, w.named k)
+            (sym (or_assoc (unnamed_edge after k) (is_named l ws (read_of body).source k && same_bytes (read_of body).target all_unnamed) (unnamed_in l ws (map read_of (bodies Kind.AddReads (drop span.next.at q))) k)));
         small = λ k s. w.small k (h.small k s);
       }
 
-      pub add-less : length q - next.at < length q - at
-      add-less = next-less Kind.AddReads q at r er start len next e h.within
+      pub add-less : length q - span.next.at < length q - at
+      add-less = next-less Kind.AddReads q at r er span.start span.len span.next e h.within
 
-    pub add-end : r ≡ Next.Nothing → ReadsAdded l ws (request_of q).add_reads before after
+    pub add-end : r ≡ None → ReadsAdded l ws (request_of q).add_reads before after
     unfolding request_of read_at unnamed_in any
     add-end e = record {
       edges = λ i j. sym (h.edges i j ∙ rw (bodies-end Kind.AddReads q at r er e) (or-false (edge after i j)));

@@ -15,7 +15,6 @@ use Rattle.records.specs.Record.{bodies, is_body, is_requires}
 use Rattle.records.specs.Descriptor.{Requirement, Descriptor, requirement_of, descriptor_of}
 use Rattle.records.specs.Request.{Read, Request, request_of, has_read}
 use Rattle.records.specs.Set.{check_set, blocks, block_at, modules}
-use Rattle.records.specs.declared.set.SetAnswer.TheVariants.{Modules}
 use Rattle.records.specs.declared.record.Kind.TheVariants as Kind
 use Rattle.records.proofs.bytes.Laws.{same-eq, same_refl}
 use Rattle.records.proofs.set.Blocks.{GoodSet, good-set}
@@ -38,6 +37,7 @@ use Rattle.resolution.proofs.Sets.{set-length, module_block}
 use Rattle.resolution.proofs.row.Bits.{bit-zero}
 use Rattle.resolution.proofs.readability.Resolved.{each_way, member-out, member_in, member_is, member-at, named-out, named_in, from_member, own-names, reached-out, reached-direct, reached_implied}
 use Rattle.resolution.proofs.readability.Resolved as Resolved
+use Rattle.std.specs.Prelude.{Ok}
 
 module _ (s : List Descriptor) (free : mem_name all_unnamed (names s) ≡ false) (ws : List ℕ) (ms : List Descriptor) (h : Members s ws ms) (rq : Request) where
   abbrev name_at : ℕ → Name
@@ -247,7 +247,7 @@ module _ (s : List Descriptor) (free : mem_name all_unnamed (names s) ≡ false)
 
 -- ---- over bytes
 
-module _ (s : List ℕ) (n : ℕ) (t : List ℕ) (e : check_set s ≡ record { answer = Modules n; starts = t }) where
+module _ (s : List ℕ) (n : ℕ) (t : List ℕ) (e : check_set s ≡ Ok (record { count = n; starts = t })) where
   good : GoodSet s n t
   good = good-set s n t e
 

@@ -15,10 +15,9 @@ use Rattle.records.specs.Record.{bodies, next_of}
 use Rattle.records.specs.Descriptor.{requirement_of, descriptor_of}
 use Rattle.records.specs.Set.{block_at}
 use Rattle.records.specs.Finder.{find_name, is_at}
-use Rattle.records.specs.declared.finder.Found.{Found}
-use Rattle.records.specs.declared.finder.Found.TheVariants.{At, Nothing}
+use Rattle.records.specs.Finder.{Found}
 use Rattle.records.specs.declared.record.Cursor.{Cursor}
-use Rattle.records.specs.declared.record.Next.{Next}
+use Rattle.records.specs.Record.{Next}
 use Rattle.records.specs.declared.record.Kind.TheVariants as Kind
 use Rattle.records.proofs.record.Bodies.{bodies-next, bodies-end, next-room, next-less}
 use Rattle.records.proofs.bytes.Laws.{same-eq}
@@ -28,19 +27,21 @@ use Rattle.resolution.specs.Row.{holds, Empty, Added}
 use Rattle.resolution.specs.Graph.{edge, ninth, ReachedFrom}
 use Rattle.resolution.specs.Readability.{member_of, is_named, is_required, required_at, direct_at, direct_from, base_of, edges_of, others_at, Below, ModuleReads, WithMore, Holding, WithEdges}
 use Rattle.resolution.proofs.row.Laws.{holds-out}
+use Rattle.std.specs.Prelude.{Some, None}
+use Rattle.records.specs.declared.record.Span.{Span}
 
 -- ---- the member of a name
 
 module _ (l : List Name) (ws : List ℕ) (n : Name) (f : Found) (e : f ≡ find_name l n 0) where
-  pub member-held : (i : ℕ) (h : Bool) → f ≡ At i → h ≡ holds ws i → h ≡ true → At i ≡ member_of ws (find_name l n 0)
+  pub member-held : (i : ℕ) (h : Bool) → f ≡ Some i → h ≡ holds ws i → h ≡ true → Some i ≡ member_of ws (find_name l n 0)
   unfolding member_of
   member-held i h ei eh t = sym (ap (member_of ws) (sym e ∙ ei) ∙ rw (← eh, t))
 
-  pub member-other : (i : ℕ) (h : Bool) → f ≡ At i → h ≡ holds ws i → h ≡ false → Nothing ≡ member_of ws (find_name l n 0)
+  pub member-other : (i : ℕ) (h : Bool) → f ≡ Some i → h ≡ holds ws i → h ≡ false → None ≡ member_of ws (find_name l n 0)
   unfolding member_of
   member-other i h ei eh t = sym (ap (member_of ws) (sym e ∙ ei) ∙ rw (← eh, t))
 
-  pub member-none : f ≡ Nothing → Nothing ≡ member_of ws (find_name l n 0)
+  pub member-none : f ≡ None → None ≡ member_of ws (find_name l n 0)
   unfolding member_of
   member-none en = sym (ap (member_of ws) (sym e ∙ en))
 
@@ -52,12 +53,12 @@ held_below ws i n h = by (ltb i 512) (λ t. ltb-true i 512 t) (λ t. true≠fals
 
 pub member_below : (ws : List ℕ) (f r : Found) → length ws ≡ 8 → r ≡ member_of ws f → Below r
 unfolding member_of Below
-member_below ws (At i) r n e = by (holds ws i)
-    (λ h. let q : r ≡ At i = e ∙ rw h in subst Below (sym q) (held_below ws i n h))
-    (λ h. let q : r ≡ Nothing = e ∙ rw h in subst Below (sym q) tt)
-member_below ws Nothing r n e = subst Below (sym e) tt
+member_below ws (Some i) r n e = by (holds ws i)
+    (λ h. let q : r ≡ Some i = e ∙ rw h in subst Below (sym q) (held_below ws i n h))
+    (λ h. let q : r ≡ None = e ∙ rw h in subst Below (sym q) tt)
+member_below ws None r n e = subst Below (sym e) tt
 
-pub at-below : (r : Found) (i : ℕ) → Below r → r ≡ At i → i < 512
+pub at-below : (r : Found) (i : ℕ) → Below r → r ≡ Some i → i < 512
 unfolding Below
 at-below r i b e = subst Below e b
 
@@ -108,7 +109,7 @@ required-start : (l : List Name) (ws : List ℕ) (only : Bool) (b : List ℕ) (p
 required-start l ws only b p g n = record { within = omega arith; long = n; left = λ i j. refl; ninths = λ k. refl }
 
 module _ (l : List Name) (ws : List ℕ) (only : Bool) (b : List ℕ) (p : ℕ) (before g : List ℕ) (at : ℕ) (h : RequiredAt l ws only b p before g at) (r : Next) (er : r ≡ next_of Kind.Requires b at) where
-  required-next : (start len : ℕ) (next : Cursor) → r ≡ Next.Body start len next → (body after : List ℕ) → body ≡ take len (drop start b) → length after ≡ length g
+  required-next : (start len : ℕ) (next : Cursor) → r ≡ Some (record { start = start; len = len; next = next }) → (body after : List ℕ) → body ≡ take len (drop start b) → length after ≡ length g
       → WithEdges g (edges_of p (is_required l ws only (requirement_of body))) after → RequiredAt l ws only b p before after next.at
   unfolding required_at any edges_of
   required-next start len next e body after eb n w = record {
@@ -123,7 +124,7 @@ module _ (l : List Name) (ws : List ℕ) (only : Bool) (b : List ℕ) (p : ℕ) 
       rest : ℕ → Bool
       rest j = required_at l ws only (map requirement_of (bodies Kind.Requires (drop next.at b))) j
 
-  pub required-end : r ≡ Next.Nothing → WithEdges before (edges_of p (required_at l ws only (descriptor_of b).requires)) g
+  pub required-end : r ≡ None → WithEdges before (edges_of p (required_at l ws only (descriptor_of b).requires)) g
   unfolding descriptor_of required_at any edges_of
   required-end e = record { each = λ i j. sym (h.left i j ∙ rw (bodies-end Kind.Requires b at r er e, and-false (eqb i p)) (or-false (edge g i j))); ninths = h.ninths }
 
@@ -143,22 +144,22 @@ module _ (l : List Name) (ws b : List ℕ) (p : ℕ) (g₀ rows₀ g rows : List
   both-rows = h.every.long
 
   module _ (r : Next) (er : r ≡ next_of Kind.Requires b at) where
-    module _ (start len : ℕ) (next : Cursor) (e : r ≡ Next.Body start len next) where
-      pub both-next : (body g₂ rows₂ : List ℕ) → body ≡ take len (drop start b) → length g₂ ≡ length g → length rows₂ ≡ length rows
+    module _ (span : Span) (e : r ≡ Some span) where
+      pub both-next : (body g₂ rows₂ : List ℕ) → body ≡ take span.len (drop span.start b) → length g₂ ≡ length g → length rows₂ ≡ length rows
           → WithEdges g (edges_of p (is_required l ws true (requirement_of body))) g₂ → WithEdges rows (edges_of p (is_required l ws false (requirement_of body))) rows₂
-          → BothAt l ws b p g₀ rows₀ g₂ rows₂ next.at
+          → BothAt l ws b p g₀ rows₀ g₂ rows₂ span.next.at
       both-next body g₂ rows₂ eb n m w v = record {
-        only = required-next l ws true b p g₀ g at h.only r er start len next e body g₂ eb n w;
-        every = required-next l ws false b p rows₀ rows at h.every r er start len next e body rows₂ eb m v;
+        only = required-next l ws true b p g₀ g at h.only r er span.start span.len span.next e body g₂ eb n w;
+        every = required-next l ws false b p rows₀ rows at h.every r er span.start span.len span.next e body rows₂ eb m v;
       }
 
-      pub both-less : length b - next.at < length b - at
-      both-less = next-less Kind.Requires b at r er start len next e h.every.within
+      pub both-less : length b - span.next.at < length b - at
+      both-less = next-less Kind.Requires b at r er span.start span.len span.next e h.every.within
 
-    pub graph-all : r ≡ Next.Nothing → WithEdges g₀ (edges_of p (required_at l ws true (descriptor_of b).requires)) g
+    pub graph-all : r ≡ None → WithEdges g₀ (edges_of p (required_at l ws true (descriptor_of b).requires)) g
     graph-all e = required-end l ws true b p g₀ g at h.only r er e
 
-    pub rows_all : r ≡ Next.Nothing → WithEdges rows₀ (edges_of p (required_at l ws false (descriptor_of b).requires)) rows
+    pub rows_all : r ≡ None → WithEdges rows₀ (edges_of p (required_at l ws false (descriptor_of b).requires)) rows
     rows_all e = required-end l ws false b p rows₀ rows at h.every r er e
 
 pub ruleset requirements_laws = (both-start, both-graph, both-rows, both-next, both-less, graph-all, rows_all)

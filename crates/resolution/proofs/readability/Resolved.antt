@@ -13,8 +13,7 @@ use Rattle.records.specs.Bytes.{same_bytes}
 use Rattle.records.specs.Name.{java_base}
 use Rattle.records.specs.Descriptor.{Requirement, Descriptor}
 use Rattle.records.specs.Finder.{find_name, pick_found, is_at}
-use Rattle.records.specs.declared.finder.Found.{Found}
-use Rattle.records.specs.declared.finder.Found.TheVariants.{At, Nothing}
+use Rattle.records.specs.Finder.{Found}
 use Rattle.records.proofs.Logic.{and_both, and_left, and_right, and_split, by, or_cases, or_left, or_right, true≠false}
 use Rattle.resolution.specs.Lists.{Name, Mem, keep}
 use Rattle.resolution.specs.Resolution.{names, find, has_module, index_of}
@@ -29,6 +28,7 @@ use Rattle.resolution.proofs.Edges.{transitive_in}
 use Rattle.resolution.proofs.Find.{find-mem, has-find, has_some}
 use Rattle.resolution.proofs.Lists.{any_in, any_out, flat_in, flat_out, keep_in, keep_out, map_in, map-out}
 use Rattle.resolution.proofs.Positions.{find_at, find-name, located, visible_located, visible-found, index-visible}
+use Rattle.std.specs.Prelude.{Some, None}
 
 some_same : {A : Type 0} (o : Option A) (a b : A) → o ≡ some a → o ≡ some b → a ≡ b
 some_same o a b p q = cc
@@ -78,14 +78,14 @@ module _ (s : List Descriptor) (ws : List ℕ) (ms : List Descriptor) (h : Membe
   named-out n j e = turned (find_name (names s) n 0) refl e
     where
       turned : (f : Found) → find_name (names s) n 0 ≡ f → is_at (member_of ws f) j ≡ true → (holds ws j ≡ true) × (name_of j ≡ n)
-      turned Nothing q k = unfold member_of is_at in true≠false k refl
-      turned (At i) q k = unfold member_of is_at in by (holds ws i)
-          (λ y. let z : is_at (pick_found true (At i) Nothing) j ≡ true = subst (λ (b : Bool). is_at (pick_found b (At i) Nothing) j ≡ true) y k in
+      turned None q k = unfold member_of is_at in true≠false k refl
+      turned (Some i) q k = unfold member_of is_at in by (holds ws i)
+          (λ y. let z : is_at (pick_found true (Some i) None) j ≡ true = subst (λ (b : Bool). is_at (pick_found b (Some i) None) j ≡ true) y k in
           let p : j ≡ i = eqb-true j i z in (
             subst (λ (x : ℕ). holds ws x ≡ true) (sym p) y,
             subst (λ (x : ℕ). name_of x ≡ n) (sym p) (find-mem n s (module_at s i) (located n s i q).is).1,
           ))
-          (λ y. true≠false (subst (λ (b : Bool). is_at (pick_found b (At i) Nothing) j ≡ true) y k) refl)
+          (λ y. true≠false (subst (λ (b : Bool). is_at (pick_found b (Some i) None) j ≡ true) y k) refl)
 
   named-own : (j : ℕ) → holds ws j ≡ true → is_named (names s) ws (name_of j) j ≡ true
   unfolding is_named member_of is_at

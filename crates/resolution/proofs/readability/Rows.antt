@@ -2,7 +2,7 @@
 use mathlib.Core.Path.{◌≡◌, refl, sym, ap, ◌∙◌, subst}
 use mathlib.Core.Bool.{Bool, true, false, or-false}
 use mathlib.Core.List.{List}
-use Prim.Native.Nat.{ℕ, ◌+◌, ◌*◌, ◌-◌, ◌≤◌, ◌<◌}
+use Prim.Native.Nat.{ℕ, ◌+◌, ◌*◌, ◌≤◌, ◌<◌}
 use native.Mathlib.Omega.{arith}
 use lib.Dec.{ltb}
 use lib.ListN.{length, get_or, replicate, length-replicate}
@@ -11,7 +11,7 @@ use Rattle.records.specs.Descriptor.{Descriptor, descriptor_of}
 use Rattle.records.specs.Set.{block_at}
 use Rattle.records.proofs.Logic.{true≠false, by}
 use Rattle.resolution.specs.Lists.{Name}
-use Rattle.resolution.specs.Row.{holds, FirstFrom}
+use Rattle.resolution.specs.Row.{holds, NoneFrom, First}
 use Rattle.resolution.specs.Graph.{edge, ninth, Successors}
 use Rattle.resolution.specs.Readability.{table_names, required_at, direct_at, direct_from, transitive_at, edges_of, ModuleReads, Holding, WithEdges, RowSet, TransitiveGraph, DirectRows, ReadRows}
 use Rattle.resolution.proofs.row.Laws.{holds-out, zero-at}
@@ -41,21 +41,21 @@ module _ (want : ℕ → ℕ → Bool) (ws : List ℕ) (m : length ws ≡ 8) (no
   }
 
   module _ (g : List ℕ) (k : ℕ) (h : SetAt want g k) where
-    module _ (p : ℕ) (f : FirstFrom (holds ws) k 512 p) where
-      -- also those between k and the next member
-      passed : (i : ℕ) → i < p → (j : ℕ) → edge g i j ≡ want i j
-      passed i l j = by (ltb i k)
-          (λ q. h.so_far i (ltb-true i k q) j)
-          (λ q. let o : k ≤ i = ltb-false i k q in h.later i o j ∙ sym (none i j (f.none i o l)))
+    -- also those between k and the next member
+    passed : (p : ℕ) → ((i : ℕ) → k ≤ i → i < p → holds ws i ≡ false) → (i : ℕ) → i < p → (j : ℕ) → edge g i j ≡ want i j
+    passed p n i l j = by (ltb i k)
+        (λ q. h.so_far i (ltb-true i k q) j)
+        (λ q. let o : k ≤ i = ltb-false i k q in h.later i o j ∙ sym (none i j (n i o l)))
 
-      set_next : (pass : ℕ → Bool) (after : List ℕ) → p < 512 → length after ≡ length g → ((j : ℕ) → want p j ≡ pass j) → WithEdges g (edges_of p pass) after → SetAt want after (p + 1)
+    module _ (p : ℕ) (f : First (holds ws) k 512 p) where
+      set_next : (pass : ℕ → Bool) (after : List ℕ) → length after ≡ length g → ((j : ℕ) → want p j ≡ pass j) → WithEdges g (edges_of p pass) after → SetAt want after (p + 1)
       unfolding edges_of
-      set_next pass after l n w r = record {
-        within = omega arith;
+      set_next pass after n w r = record {
+        within = omega (arith, f.below);
         long = n ∙ h.long;
         so_far = λ i z j. below_next p i z
             (λ e. subst (λ (x : ℕ). edge after x j ≡ want x j) (sym e) (r.each p j ∙ rw (h.later p f.from j, eq-eqb p p refl) (sym (w j))))
-            (λ ne b. other i j ne ∙ passed i b j);
+            (λ ne b. other i j ne ∙ passed p f.none i b j);
         later = λ i z j. other i j (λ e. omega arith) ∙ h.later i (omega (arith, f.from)) j;
         ninths = λ i. r.ninths i ∙ h.ninths i;
       }
@@ -63,13 +63,10 @@ module _ (want : ℕ → ℕ → Bool) (ws : List ℕ) (m : length ws ≡ 8) (no
           other : (i j : ℕ) → (i ≡ p → ⊥) → edge after i j ≡ edge g i j
           other i j ne = r.each i j ∙ rw (ne_eqb i p ne) (or-false (edge g i j))
 
-      set-none : 512 ≤ p → (i j : ℕ) → edge g i j ≡ want i j
-      set-none l i j = by (ltb i 512)
-          (λ q. passed i (omega (arith, ltb-true i 512 q)) j)
-          (λ q. let o : 512 ≤ i = ltb-false i 512 q in edge-out g i j h.long o ∙ sym (none i j (holds-out ws i m o)))
-
-    set-end : 512 ≤ k → (i j : ℕ) → edge g i j ≡ want i j
-    set-end l = set-none k (record { from = omega arith; within = h.within; none = λ i a b. absurd (omega arith); found = λ b. absurd (omega arith) }) l
+    set-none : NoneFrom (holds ws) k 512 → (i j : ℕ) → edge g i j ≡ want i j
+    set-none f i j = by (ltb i 512)
+        (λ q. passed 512 f.none i (ltb-true i 512 q) j)
+        (λ q. let o : 512 ≤ i = ltb-false i 512 q in edge-out g i j h.long o ∙ sym (none i j (holds-out ws i m o)))
 
 -- what row i is to hold
 abbrev pub transitive_row : List ℕ → List ℕ → ℕ → List ℕ → ℕ → ℕ → Bool
@@ -115,35 +112,26 @@ module _ (s t : List ℕ) (n : ℕ) (ws g rows : List ℕ) where
     pub direct-rows-long : length rows ≡ 4608
     direct-rows-long = h.direct.long
 
-    module _ (p : ℕ) (f : FirstFrom (holds ws) k 512 p) where
-      pub direct-next : (g₂ rows₂ : List ℕ) → p < 512 → length g₂ ≡ length g → length rows₂ ≡ length rows
+    module _ (p : ℕ) (f : First (holds ws) k 512 p) where
+      pub direct-next : (g₂ rows₂ : List ℕ) → length g₂ ≡ length g → length rows₂ ≡ length rows
           → WithEdges g (edges_of p (required_at (table_names s t n) ws true (descriptor_of (block_at s t p)).requires)) g₂
           → WithEdges rows (edges_of p (direct_at (table_names s t n) ws (descriptor_of (block_at s t p)))) rows₂ → DirectAt s t n ws g₂ rows₂ (p + 1)
       unfolding transitive_at direct_from
-      direct-next g₂ rows₂ l m o x y = record {
+      direct-next g₂ rows₂ m o x y = record {
         members = h.members;
         graph = set_next (transitive_row s t n ws) ws h.members (transitive_none s t n ws) g k h.graph p f
-            (required_at (table_names s t n) ws true (descriptor_of (block_at s t p)).requires) g₂ l m (λ j. rw (f.found l)) x;
+            (required_at (table_names s t n) ws true (descriptor_of (block_at s t p)).requires) g₂ m (λ j. rw f.found) x;
         direct = set_next (direct_row s t n ws) ws h.members (direct-none s t n ws) rows k h.direct p f
-            (direct_at (table_names s t n) ws (descriptor_of (block_at s t p))) rows₂ l o (λ j. rw (f.found l)) y;
+            (direct_at (table_names s t n) ws (descriptor_of (block_at s t p))) rows₂ o (λ j. rw f.found) y;
       }
 
-      pub graph-none : 512 ≤ p → TransitiveGraph s t n ws g
-      graph-none l = record { each = set-none (transitive_row s t n ws) ws h.members (transitive_none s t n ws) g k h.graph p f l }
+    pub graph-none : NoneFrom (holds ws) k 512 → TransitiveGraph s t n ws g
+    graph-none f = record { each = set-none (transitive_row s t n ws) ws h.members (transitive_none s t n ws) g k h.graph f }
 
-      pub direct-done : 512 ≤ p → DirectRows s t n ws rows
-      direct-done l = record { each = set-none (direct_row s t n ws) ws h.members (direct-none s t n ws) rows k h.direct p f l; ninths = h.direct.ninths }
+    pub direct-done : NoneFrom (holds ws) k 512 → DirectRows s t n ws rows
+    direct-done f = record { each = set-none (direct_row s t n ws) ws h.members (direct-none s t n ws) rows k h.direct f; ninths = h.direct.ninths }
 
-      pub direct-less : p < 512 → 512 - (p + 1) < 512 - k
-      direct-less l = omega (arith, f.from)
-
-    pub graph-end : 512 ≤ k → TransitiveGraph s t n ws g
-    graph-end l = record { each = set-end (transitive_row s t n ws) ws h.members (transitive_none s t n ws) g k h.graph l }
-
-    pub direct-end : 512 ≤ k → DirectRows s t n ws rows
-    direct-end l = record { each = set-end (direct_row s t n ws) ws h.members (direct-none s t n ws) rows k h.direct l; ninths = h.direct.ninths }
-
-pub ruleset set-direct-laws = (zeros-long, direct-start, direct-within, direct-long, direct-rows-long, direct-next, graph-none, direct-done, direct-less, graph-end, direct-end)
+pub ruleset set-direct-laws = (zeros-long, direct-start, direct-within, direct-long, direct-rows-long, direct-next, graph-none, direct-done)
 
 -- ---- the rows of what is read
 
@@ -178,48 +166,43 @@ module _ (s t : List ℕ) (n : ℕ) (ws g rows : List ℕ) (k : ℕ) (h : RowsAt
   pub rows_long : length rows ≡ 4608
   rows_long = h.long
 
-  module _ (p : ℕ) (f : FirstFrom (holds ws) k 512 p) where
-    pub rows-less : p < 512 → 512 - (p + 1) < 512 - k
-    rows-less l = omega (arith, f.from)
+  -- also those between k and the next member: they read nothing
+  rows-passed : (p : ℕ) → ((i : ℕ) → k ≤ i → i < p → holds ws i ≡ false) → (i : ℕ) → i < p
+      → ModuleReads (table_names s t n) ws g (descriptor_of (block_at s t i)) i (λ j. edge rows i j)
+  rows-passed p none i l = by (ltb i k)
+      (λ q. h.so_far i (ltb-true i k q))
+      (λ q. let o : k ≤ i = ltb-false i k q in let e : holds ws i ≡ false = none i o l in record {
+        member = λ y. true≠false y e;
+        other = λ _ j. h.still i j o ∙ direct-none s t n ws i j e;
+      })
 
+  module _ (p : ℕ) (f : First (holds ws) k 512 p) where
     pub rows-direct : (row : List ℕ) → Successors rows p row → Holding row (direct_row s t n ws p)
     rows-direct row r = record { each = λ j. r.each j ∙ h.still p j f.from }
 
-    -- also those between k and the next member: they read nothing
-    rows-passed : (i : ℕ) → i < p → ModuleReads (table_names s t n) ws g (descriptor_of (block_at s t i)) i (λ j. edge rows i j)
-    rows-passed i l = by (ltb i k)
-        (λ q. h.so_far i (ltb-true i k q))
-        (λ q. let o : k ≤ i = ltb-false i k q in let e : holds ws i ≡ false = f.none i o l in record {
-          member = λ y. true≠false y e;
-          other = λ _ j. h.still i j o ∙ direct-none s t n ws i j e;
-        })
-
-    pub rows_next : (row after : List ℕ) → p < 512 → length after ≡ length rows
+    pub rows_next : (row after : List ℕ) → length after ≡ length rows
         → ModuleReads (table_names s t n) ws g (descriptor_of (block_at s t p)) p (holds row) → RowSet rows p row after → RowsAt s t n ws g after (p + 1)
-    rows_next row after l m w r = record {
+    rows_next row after m w r = record {
       members = h.members;
-      within = omega arith;
+      within = omega (arith, f.below);
       long = m ∙ h.long;
       so_far = λ i z. below_next p i z
           (λ e. subst (λ (x : ℕ). ModuleReads (table_names s t n) ws g (descriptor_of (block_at s t x)) x (λ j. edge after x j)) (sym e)
           (same_reads (table_names s t n) ws g (descriptor_of (block_at s t p)) p (holds row) (λ j. edge after p j) (λ j. r.here j) w))
-          (λ ne b. same_reads (table_names s t n) ws g (descriptor_of (block_at s t i)) i (λ j. edge rows i j) (λ j. edge after i j) (λ j. r.others i j ne) (rows-passed i b));
+          (λ ne b. same_reads (table_names s t n) ws g (descriptor_of (block_at s t i)) i (λ j. edge rows i j) (λ j. edge after i j) (λ j. r.others i j ne) (rows-passed p f.none i b));
       still = λ i j z. r.others i j (λ e. omega arith) ∙ h.still i j (omega (arith, f.from));
       ninths = λ i. r.ninths i ∙ h.ninths i;
     }
 
-    pub rows_none : 512 ≤ p → ReadRows s t n ws g rows
-    rows_none l = record {
-      each = λ i. by (ltb i 512)
-          (λ q. rows-passed i (omega (arith, ltb-true i 512 q)))
-          (λ q. let o : 512 ≤ i = ltb-false i 512 q in record {
-            member = λ y. true≠false y (holds-out ws i h.members o);
-            other = λ _ j. edge-out rows i j h.long o;
-          });
-      ninths = h.ninths;
-    }
+  pub rows_none : NoneFrom (holds ws) k 512 → ReadRows s t n ws g rows
+  rows_none f = record {
+    each = λ i. by (ltb i 512)
+        (λ q. rows-passed 512 f.none i (ltb-true i 512 q))
+        (λ q. let o : 512 ≤ i = ltb-false i 512 q in record {
+          member = λ y. true≠false y (holds-out ws i h.members o);
+          other = λ _ j. edge-out rows i j h.long o;
+        });
+    ninths = h.ninths;
+  }
 
-  pub rows_end : 512 ≤ k → ReadRows s t n ws g rows
-  rows_end l = rows_none k (record { from = omega arith; within = h.within; none = λ i a b. absurd (omega arith); found = λ b. absurd (omega arith) }) l
-
-pub ruleset rows-laws = (rows_start, rows-within, rows_long, rows-less, rows-direct, rows_next, rows_none, rows_end)
+pub ruleset rows-laws = (rows_start, rows-within, rows_long, rows-direct, rows_next, rows_none)

@@ -9,10 +9,10 @@ use lib.ListN.{length, get_or, take, set, length-set}
 use lib.Seq.{take-suc-set, take-set-le, get_or-set_same, get_or-set_other}
 use borrow.Author.Tests.{eq-eqb, eqb-true, eqb-false}
 use Rattle.records.specs.declared.error.ModuleError.{ModuleError}
-use Rattle.records.proofs.Logic.{or_right}
+use Rattle.records.proofs.Logic.{clash, or_right}
 use Rattle.resolution.specs.Lists.{any}
 use Rattle.resolution.specs.Row.{one, count_below}
-use Rattle.resolution.specs.Resolver.{line_at, is_one_of, queued_at, queued_on, queued, Ready, Within, Moved}
+use Rattle.resolution.specs.Resolver.{line_at, is_one_of, queued_at, queued_on, queued, is_done, Ready, Within, Moved}
 use Rattle.resolution.specs.declared.resolver.Halt.{Halt}
 use Rattle.resolution.specs.declared.resolver.Queue.{Queue}
 use Rattle.resolution.specs.declared.resolver.Wanted.{Wanted}
@@ -53,7 +53,7 @@ module _ (count : ℕ) (order : List ℕ) (q : Queue) (h : Ready count order q) 
   pub queued-is : eqb (get_or order (512 + i) 0) 1 ≡ is_one_of i (take q.tail order)
   queued-is = one-is (get_or order (512 + i) 0) (is_one_of i (take q.tail order)) (h.marked i (omega (arith, h.few, l)))
 
-pub ruleset queued-laws = (queued-index, queued-is)
+pub ruleset queued_laws = (queued-index, queued-is)
 
 module _ (count : ℕ) (order : List ℕ) (q : Queue) (h : Ready count order q) (i : ℕ) (l : i < count) (r : Bool) (er : r ≡ is_one_of i (take q.tail order)) where
   pub push-there : r ≡ true → Moved count order q (queued_at i (line_at order q))
@@ -103,23 +103,36 @@ module _ (count : ℕ) (order : List ℕ) (q : Queue) (h : Ready count order q) 
         add-one : (n : ℕ) → n + 1 ≡ suc n
         add-one n = omega arith
 
-pub ruleset push-laws = (push-there, push-room, push-index, push-mark, push-moved)
+    pub push-ready : Ready count (set (set order q.tail i) (512 + i) 1) (record { head = q.head; tail = q.tail + 1; halt = q.halt })
+    push-ready = (push-moved (set (set order q.tail i) (512 + i) 1) refl).ready
+
+pub ruleset push_laws = (push-ready, push-there, push-room, push-index, push-mark, push-moved)
 
 -- ---- what is wanted
 
-module _ (count : ℕ) (order : List ℕ) (q : Queue) (h : Ready count order q) where
-  pub enqueue-stopped : (wanted : Wanted) (e : ModuleError) → q.halt ≡ Halt.Stop e → Moved count order q (queued wanted (line_at order q))
-  unfolding queued queued_on line_at
-  enqueue-stopped wanted e t = record { line = sym (rw t); ready = h }
+module _ (count : ℕ) (order : List ℕ) (q : Queue) (h : Ready count order q) (wanted : Wanted) (d : Bool) (ed : d ≡ is_done q.halt) where
+  pub enqueue-ended : d ≡ false → Moved count order q (queued wanted (line_at order q))
+  unfolding queued queued_on is_done line_at
+  enqueue-ended t = record { line = sym (go q.halt (sym ed ∙ t)); ready = h }
+    where
+      go : (halt : Halt) → is_done halt ≡ false → queued_on halt wanted (record { order = take q.tail order; head = q.head; halt = q.halt }) ≡ record { order = take q.tail order; head = q.head; halt = q.halt }
+      go Halt.Open k = clash (cc)
+      go (Halt.Stop x) k = refl
+      go (Halt.Refused x) k = refl
 
-  pub enqueue-refused : (wanted : Wanted) (e : ModuleError) → q.halt ≡ Halt.Refused e → Moved count order q (queued wanted (line_at order q))
-  unfolding queued queued_on line_at
-  enqueue-refused wanted e t = record { line = sym (rw t); ready = h }
+  module _ (t : d ≡ true) where
+    open_is : q.halt ≡ Halt.Open
+    unfolding is_done
+    open_is = go q.halt (sym ed ∙ t)
+      where
+        go : (halt : Halt) → is_done halt ≡ true → halt ≡ Halt.Open
+        go Halt.Open k = refl
+        go (Halt.Stop x) k = clash (cc)
+        go (Halt.Refused x) k = clash (cc)
 
-  module _ (wanted : Wanted) (t : q.halt ≡ Halt.Open) where
     pub enqueue-pass : wanted ≡ Pass → Moved count order q (queued wanted (line_at order q))
     unfolding queued queued_on line_at
-    enqueue-pass e = record { line = sym (rw (t, e)); ready = h }
+    enqueue-pass e = record { line = sym (rw (open_is, e)); ready = h }
 
     pub enqueue-within : (i : ℕ) → wanted ≡ Add i → Within count wanted → i < count
     unfolding Within
@@ -127,17 +140,17 @@ module _ (count : ℕ) (order : List ℕ) (q : Queue) (h : Ready count order q) 
 
     pub enqueue-add : (i : ℕ) (o : List ℕ) (r : Queue) → wanted ≡ Add i → Moved count o r (queued_at i (line_at order q)) → Moved count o r (queued wanted (line_at order q))
     unfolding queued queued_on line_at
-    enqueue-add i o r e m = record { line = m.line ∙ sym (rw (t, e)); ready = m.ready }
+    enqueue-add i o r e m = record { line = m.line ∙ sym (rw (open_is, e)); ready = m.ready }
 
     same-ready : (halt : Halt) → Ready count order (record { head = q.head; tail = q.tail; halt = halt })
     same-ready halt = record { long = h.long; few = h.few; waits = h.waits; room = h.room; marked = h.marked }
 
     pub enqueue-stop : (e : ModuleError) → wanted ≡ Stop e → Moved count order (record { head = q.head; tail = q.tail; halt = Halt.Stop e }) (queued wanted (line_at order q))
     unfolding queued queued_on line_at
-    enqueue-stop e k = record { line = sym (rw (t, k)); ready = same-ready (Halt.Stop e) }
+    enqueue-stop e k = record { line = sym (rw (open_is, k)); ready = same-ready (Halt.Stop e) }
 
     pub enqueue-refuse : (e : ModuleError) → wanted ≡ Refuse e → Moved count order (record { head = q.head; tail = q.tail; halt = Halt.Refused e }) (queued wanted (line_at order q))
     unfolding queued queued_on line_at
-    enqueue-refuse e k = record { line = sym (rw (t, k)); ready = same-ready (Halt.Refused e) }
+    enqueue-refuse e k = record { line = sym (rw (open_is, k)); ready = same-ready (Halt.Refused e) }
 
-pub ruleset enqueue-laws = (enqueue-stopped, enqueue-refused, enqueue-pass, enqueue-within, enqueue-add, enqueue-stop, enqueue-refuse)
+pub ruleset enqueue_laws = (enqueue-ended, enqueue-pass, enqueue-within, enqueue-add, enqueue-stop, enqueue-refuse)

@@ -1,6 +1,6 @@
 -- The names that the records of one kind queue, one record after the other, until something ends the queue.
 use Prim.Native.Nat.{ℕ, suc, ◌+◌, ◌-◌, ◌≤◌, ◌<◌}
-use mathlib.Core.Path.{◌≡◌, refl, sym, ◌∙◌, ap}
+use mathlib.Core.Path.{◌≡◌, refl, sym, ◌∙◌, ap, subst}
 use mathlib.Core.Bool.{Bool, true, false}
 use mathlib.Core.List.{List, [], ◌∷◌}
 use native.Mathlib.Omega.{arith}
@@ -12,10 +12,9 @@ use Rattle.records.specs.Record.{body_of, records, record_more, whole, is_of, ne
 use Rattle.records.specs.declared.error.Input.{Input}
 use Rattle.records.specs.declared.record.Cursor.{Cursor}
 use Rattle.records.specs.declared.record.Kind.{Kind}
-use Rattle.records.specs.declared.record.Next.{Next}
-use Rattle.records.specs.declared.record.Next.TheVariants.{Body, Nothing}
+use Rattle.records.specs.Record.{Next}
 use Rattle.records.proofs.Logic.{clash}
-use Rattle.records.proofs.record.Laws.{Front, front_of, records-cons, records-none, records-end, records-ind, body-front}
+use Rattle.records.proofs.record.Laws.{Front, front_of, records-cons, records-none, records-end, records-ind, body-front, some_span}
 use Rattle.records.proofs.record.Bodies.{next-less, body-room}
 use Rattle.resolution.specs.Resolver.{Inputs, inputs_of, want_record, kind_for, Line, pick_line, line_at, queued, queued_on, queue_in, is_done, Ready, Moved}
 use Rattle.resolution.specs.Known.{Tables}
@@ -23,6 +22,8 @@ use Rattle.resolution.specs.declared.resolver.Halt.{Halt}
 use Rattle.resolution.specs.declared.resolver.Phase.{Phase}
 use Rattle.resolution.specs.declared.resolver.Queue.{Queue}
 use Rattle.resolution.specs.declared.resolver.Wanted.{Wanted}
+use Rattle.std.specs.Prelude.{Some, None}
+use Rattle.records.specs.declared.record.Span.{Span}
 
 -- after a halt a name is not queued
 queued-ended : (wanted : Wanted) (l : Line) → is_done l.halt ≡ false → queued wanted l ≡ l
@@ -49,14 +50,14 @@ module _ (w : Inputs) (i : Input) where
 
   -- the line after the record found in t, whose first byte has the offset `off`, and then those behind it
   record Turns (t : List ℕ) : Type 0 where
-    turns : (off start len : ℕ) (next : Cursor) (l : Line) → next_in K off (records t) ≡ Body start len next
+    turns : (off start len : ℕ) (next : Cursor) (l : Line) → next_in K off (records t) ≡ Some (record { start = start; len = len; next = next })
         → (off + 4 ≤ start) × (next.at ≡ start + len)
         × (queue_in w i off (records t) l ≡ queue_in w i next.at (records (drop (next.at - off) t)) (queued (want_record w i (take len (drop (start - off) t)) start) l))
 
   turns_stop : (t : List ℕ) → whole t ≡ false → Turns t
   unfolding next_in
   turns_stop t e = record {
-    turns = λ off start len next l h. let n : next_in K off (records t) ≡ Nothing = rw (records-none t e) in clash (cc);
+    turns = λ off start len next l h. let n : next_in K off (records t) ≡ None = rw (records-none t e) in clash (cc);
   }
 
   turns_more : (t : List ℕ) → whole t ≡ true → Turns (drop (suc (record_more t)) t) → Turns t
@@ -76,14 +77,14 @@ module _ (w : Inputs) (i : Input) where
       u = drop n t
 
       go : (off start len : ℕ) (next : Cursor) (l : Line) (c : Bool) → is_of K f ≡ c
-          → pick_next (is_of K f) (Body (off + 4) (length (body_of f)) (record { at = off + length f })) (next_in K (off + length f) (records u)) ≡ Body start len next
+          → pick_next (is_of K f) (Some (record { start = off + 4; len = length (body_of f); next = record { at = off + length f } })) (next_in K (off + length f) (records u)) ≡ Some (record { start = start; len = len; next = next })
           → (off + 4 ≤ start) × (next.at ≡ start + len)
           × (queue_in w i off (records t) l ≡ queue_in w i next.at (records (drop (next.at - off) t)) (queued (want_record w i (take len (drop (start - off) t)) start) l))
       go off start len next l true ec h =
-          let q : Body (off + 4) (length (body_of f)) (record { at = off + length f }) ≡ Body start len next = rw ec at h in
-          let es : off + 4 ≡ start = cc in
-          let el : length (body_of f) ≡ len = cc in
-          let en : record { at = off + length f } ≡ next = cc in
+          let q : Some (record { start = off + 4; len = length (body_of f); next = record { at = off + length f } }) ≡ Some (record { start = start; len = len; next = next }) = rw ec at h in
+          let es : off + 4 ≡ start = (some_span _ _ q).start in
+          let el : length (body_of f) ≡ len = (some_span _ _ q).len in
+          let en : record { at = off + length f } ≡ next = (some_span _ _ q).next in
           let ea : next.at ≡ off + length f = sym (ap (λ (c : Cursor). c.at) en) in
           let d : start - off ≡ 4 = omega arith in
           let g : next.at - off ≡ n = omega (arith, head.long) in
@@ -97,12 +98,12 @@ module _ (w : Inputs) (i : Input) where
   turn : (t : List ℕ) → Turns t
   turn = records-ind Turns turns_stop turns_more
 
-  none_in : (off : ℕ) (rs : List (List ℕ)) (l : Line) → next_in K off rs ≡ Nothing → queue_in w i off rs l ≡ l
+  none_in : (off : ℕ) (rs : List (List ℕ)) (l : Line) → next_in K off rs ≡ None → queue_in w i off rs l ≡ l
   unfolding next_in queue_in
   none_in off [] l e = refl
   none_in off (r ∷ rs) l e = go (is_of K r) refl (none_in (off + length r) rs)
     where
-      go : (b : Bool) → is_of K r ≡ b → ((k : Line) → next_in K (off + length r) rs ≡ Nothing → queue_in w i (off + length r) rs k ≡ k) → queue_in w i off (r ∷ rs) l ≡ l
+      go : (b : Bool) → is_of K r ≡ b → ((k : Line) → next_in K (off + length r) rs ≡ None → queue_in w i (off + length r) rs k ≡ k) → queue_in w i off (r ∷ rs) l ≡ l
       go true eb ih = clash (cc)
       go false eb ih = of_other off r rs l eb ∙ ih l (rw eb at e)
 
@@ -144,8 +145,8 @@ module _ (set request starts old : List ℕ) (phase : Phase) (index names needed
     records_ready = h.ready
 
     module _ (r : Next) (er : r ≡ next_of k source at) where
-      module _ (at_body len : ℕ) (next : Cursor) (e : r ≡ Body at_body len next) where
-        here : next_of (kind_for i) source at ≡ Body at_body len next
+      module _ (span : Span) (e : r ≡ Some span) where
+        here : next_of (kind_for i) source at ≡ Some span
         here = sym (ap (λ (z : Kind). next_of z source at) h.kind_is) ∙ sym er ∙ e
 
         inside : at ≤ length source
@@ -155,35 +156,39 @@ module _ (set request starts old : List ℕ) (phase : Phase) (index names needed
             go : (b : Bool) → ltb at (length source) ≡ b → at ≤ length source
             go true t = omega (arith, ltb-true at (length source) t)
             go false t =
-                let z : next_of (kind_for i) source at ≡ Nothing = rw (records-end source at (ltb-false at (length source) t)) in
+                let z : next_of (kind_for i) source at ≡ None = rw (records-end source at (ltb-false at (length source) t)) in
                 clash (cc)
 
-        pub records_fits : at_body ≤ 65535
-        records_fits = omega (arith, h.short, body-room k source at r er at_body len next e inside)
+        pub records_fits : span.start ≤ 65535
+        records_fits = omega (arith, h.short, body-room k source at r er span.start span.len span.next e inside)
 
-        pub records_less : length source - next.at < length source - at
-        records_less = next-less k source at r er at_body len next e inside
+        pub records_less : length source - span.next.at < length source - at
+        records_less = next-less k source at r er span.start span.len span.next e inside
 
-        pub records_turn : (b : List ℕ) (wanted : Wanted) (o : List ℕ) (q₂ : Queue) → b ≡ take len (drop at_body source) → wanted ≡ want_record w i b at_body
-            → Moved phase.count o q₂ (queued wanted (line_at order q)) → RecordsAt k source from next.at start o q₂
+        pub records_turn : (b : List ℕ) (wanted : Wanted) (o : List ℕ) (q₂ : Queue) → b ≡ take span.len (drop span.start source) → wanted ≡ want_record w i b span.start
+            → Moved phase.count o q₂ (queued wanted (line_at order q)) → RecordsAt k source from span.next.at start o q₂
         unfolding next_of
         records_turn b wanted o q₂ eb ew m =
-            let z = (turn w i (drop at source)).turns at at_body len next (line_at order q) here in
-            let d : at + (at_body - at) ≡ at_body = omega (arith, z.0) in
-            let g : at + (next.at - at) ≡ next.at = omega (arith, z.0, z.1) in
+            let z = (turn w i (drop at source)).turns at span.start span.len span.next (line_at order q) here in
+            let d : at + (span.start - at) ≡ span.start = omega (arith, z.0) in
+            let g : at + (span.next.at - at) ≡ span.next.at = omega (arith, z.0, z.1) in
             record {
               tables = h.tables;
               kind_is = h.kind_is;
               short = h.short;
               ready = m.ready;
-              left = h.left ∙ z.2 ∙ rw (drop-drop (at_body - at) at source, drop-drop (next.at - at) at source, d, g, m.line, ew, eb);
+              left = h.left ∙ z.2 ∙ rw (drop-drop (span.start - at) at source, drop-drop (span.next.at - at) at source, d, g, m.line, ew, eb);
             }
 
-      pub records_done : r ≡ Nothing → Moved phase.count order q (queue_in w i from (records (drop from source)) start)
+        pub records_more : (b : List ℕ) (wanted : Wanted) (o : List ℕ) (q₂ : Queue) (count : ℕ) → b ≡ take span.len (drop span.start source) → wanted ≡ want_record w i b span.start
+            → line_at o q₂ ≡ queued wanted (line_at order q) → Ready count o q₂ → count ≡ phase.count → RecordsAt k source from span.next.at start o q₂
+        records_more b wanted o q₂ count eb ew l y ec = records_turn b wanted o q₂ eb ew (record { line = l; ready = subst (λ (n : ℕ). Ready n o q₂) ec y })
+
+      pub records_done : r ≡ None → Moved phase.count order q (queue_in w i from (records (drop from source)) start)
       unfolding next_of
       records_done e = record {
         line = sym (h.left ∙ none_in w i at (records (drop at source)) (line_at order q) (sym (ap (λ (z : Kind). next_of z source at) h.kind_is) ∙ sym er ∙ e));
         ready = h.ready;
       }
 
-pub ruleset records-laws = (records_start, records_ended, records_tables, records_ready, records_fits, records_less, records_turn, records_done)
+pub ruleset records_laws = (records_start, records_ended, records_tables, records_ready, records_fits, records_less, records_turn, records_done)

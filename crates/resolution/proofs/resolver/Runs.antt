@@ -149,4 +149,4 @@ module _ (set request starts old : List ℕ) (phase : Phase) (index names needed
             go true k = omega (arith, next_head k, run_waits, tail-few phase.count order q ready, ready.few)
             go false k = omega (arith, on_or_same)
 
-pub ruleset run-laws = (run_start, run_done, run_off, run_waits, run_tables, run_running, run_again, run_less)
+pub ruleset run_laws = (run_start, run_done, run_off, run_waits, run_tables, run_running, run_again, run_less)

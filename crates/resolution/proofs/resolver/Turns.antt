@@ -148,7 +148,7 @@ module _ (count : ℕ) (set starts order : List ℕ) (q : Queue) (h : Ready coun
       let one_more : q.head + 1 ≡ suc q.head = omega arith in
       record { line = mv.line ∙ rw (cut, ef, one_more); ready = mv.ready }
 
-pub ruleset advance-laws = (head-index, head-fits, source-short, next-ready, advance-moved)
+pub ruleset advance_laws = (head-index, head-fits, source-short, next-ready, advance-moved)
 
 -- ---- the module at the head, its packages first
 
@@ -240,23 +240,25 @@ module _ (count : ℕ) (set starts order packages : List ℕ) (q : Queue) (h : R
     unfolding handled_at line_at
     handle-refused e k = refused-ran e (rw k)
 
-pub ruleset handle-laws = (turn-index, turn-ready, turn-wide, turn-short, turn-covers, handle_open, handle-stop, handle-refused)
+pub ruleset handle_laws = (turn-index, turn-ready, turn-wide, turn-short, turn-covers, handle_open, handle-stop, handle-refused)
 
 -- ---- the queue goes on
 
-pub on-refused : (q : Queue) (e : ModuleError) → q.halt ≡ Halt.Refused e → false ≡ (is_open q.halt && not (eqb q.head q.tail))
-unfolding is_open
-on-refused q e t = sym (rw t)
+-- there is no refusal
+module _ (q : Queue) (e : ModuleError) (h : q.halt ≡ Halt.Refused e) where
+  pub on_refused : false ≡ (is_open q.halt && not (eqb q.head q.tail))
+  unfolding is_open
+  on_refused = sym (rw h)
 
 pub on_open : (q : Queue) → q.halt ≡ Halt.Open → not (eqb q.head q.tail) ≡ (is_open q.halt && not (eqb q.head q.tail))
 unfolding is_open
 on_open q t = sym (rw t)
 
-pub on-stop : (q : Queue) (e : ModuleError) → q.halt ≡ Halt.Stop e → not (eqb q.head q.tail) ≡ (is_open q.halt && not (eqb q.head q.tail))
+pub on_stop : (q : Queue) (e : ModuleError) → q.halt ≡ Halt.Stop e → not (eqb q.head q.tail) ≡ (is_open q.halt && not (eqb q.head q.tail))
 unfolding is_open
-on-stop q e t = sym (rw t)
+on_stop q e t = sym (rw t)
 
-pub ruleset on-laws = (on-refused, on_open, on-stop)
+pub ruleset on_laws = (on_refused, on_open, on_stop)
 
 -- ---- nothing ends the queue
 
@@ -272,4 +274,4 @@ pub done_refused : (q : Queue) (x : ModuleError) → q.halt ≡ Halt.Refused x �
 unfolding is_done
 done_refused q x e = sym (rw e)
 
-pub ruleset done-laws = (done_open, done-stop, done_refused)
+pub ruleset done_laws = (done_open, done-stop, done_refused)

@@ -17,7 +17,8 @@ use Rattle.resolution.specs.Filter.{requires_in, is_required}
 use Rattle.resolution.specs.Known.{RootsTold, Tables, Later}
 use Rattle.resolution.specs.Table.{NamesTold}
 use Rattle.resolution.specs.Runs.{Running, Ran, Unbound, Between, Rounded}
-use Rattle.resolution.specs.declared.table.Listed.{Listed}
+use Rattle.std.specs.Prelude.{Option, Some, None, is_some, unwrap_or}
+use Rattle.resolution.specs.declared.table.Told.TheVariants.{Requirements}
 use Rattle.resolution.specs.declared.resolver.Halt.{Halt}
 use Rattle.resolution.specs.declared.resolver.Phase.{Phase}
 use Rattle.resolution.specs.declared.resolver.Queue.{Queue}
@@ -323,7 +324,7 @@ module _ (set request starts old : List ℕ) (phase : Phase) where
 
 pub ruleset round-laws = (round-unbound, round_running, round-ran)
 
-pub ruleset rounds-laws = (rounds_start, rounds_ended, rounds_tables, rounds_between, rounds_open, rounds_none, rounds_again, rounds_less)
+pub ruleset rounds_laws = (rounds_start, rounds_ended, rounds_tables, rounds_between, rounds_open, rounds_none, rounds_again, rounds_less)
 
 -- ---- what is known of the names met before
 
@@ -347,15 +348,25 @@ module _ (set request starts old : List ℕ) (phase : Phase) (index : List ℕ) 
       unknown = h.unknown
 
   -- with one
-  pub later-told : (roots needed : List ℕ) (n : ℕ) (r : Listed) → RootsTold request roots n → NamesTold true set starts old 0 phase.before needed r
-      → Tables set request starts old (record { count = phase.count; permitted = phase.permitted; in_round = phase.in_round; before = phase.before; statics = phase.statics; limited = true; known = r.known }) index (take n roots) (take r.count needed)
+  pub later-told : (roots needed : List ℕ) (n : ℕ) (r : Option ℕ) → RootsTold request roots n → NamesTold Requirements set starts (take phase.before old) needed r
+      → (known : Bool) (m : ℕ) → known ≡ is_some r → m ≡ unwrap_or r 0
+      → Tables set request starts old (record { count = phase.count; permitted = phase.permitted; in_round = phase.in_round; before = phase.before; statics = phase.statics; limited = true; known = known }) index (take n roots) (take m needed)
   unfolding is_met_before inputs_of is_required requires_in block_of
-  later-told roots needed n r a b =
-      let t : phase.in_round ≡ true = h.later in
+  later-told roots needed n None a b known m ek em =
+      let unknown : known ≡ false = ek in
       record {
         lookup = h.lookup;
         limits = record { free = λ e. clash (cc); sorted = λ e k. clash (cc); permits = λ e k. clash (cc) };
-        met = record { sorted = λ e k. a.sorted; sorted_needed = λ e k. b.sorted; met = λ e k x. rw (a.told x, b.told e x, tells-required set starts (take phase.before old) x) };
+        met = record { sorted = λ e k. clash (cc); sorted_needed = λ e k. clash (cc); met = λ e k. clash (cc) };
+        statics = h.statics;
+      }
+  later-told roots needed n (Some i) a b known m ek em =
+      let t : phase.in_round ≡ true = h.later in
+      let q : m ≡ i = em in
+      record {
+        lookup = h.lookup;
+        limits = record { free = λ e. clash (cc); sorted = λ e k. clash (cc); permits = λ e k. clash (cc) };
+        met = record { sorted = λ e k. a.sorted; sorted_needed = λ e k. rw q (b.sorted i refl); met = λ e k x. rw q (rw (a.told x, b.told i refl x, tells-required set starts (take phase.before old) x)) };
         statics = h.statics;
       }
 
@@ -365,11 +376,15 @@ roots-room request table n h = h.room
 pub roots-part : (request table : List ℕ) (n : ℕ) → RootsTold request table n → n ≡ length (take n table)
 roots-part request table n h = sym (length-take-le n table h.room)
 
-pub needed_room : (set starts order : List ℕ) (n : ℕ) (table : List ℕ) (r : Listed) → NamesTold true set starts order 0 n table r → r.count ≤ length table
-needed_room set starts order n table r h = h.room
+needed-inside : (set starts ps table : List ℕ) (r : Option ℕ) → NamesTold Requirements set starts ps table r → unwrap_or r 0 ≤ length table
+needed-inside set starts ps table None h = omega arith
+needed-inside set starts ps table (Some i) h = h.room i refl
 
-pub needed_part : (set starts order : List ℕ) (n : ℕ) (table : List ℕ) (r : Listed) → NamesTold true set starts order 0 n table r → r.count ≡ length (take r.count table)
-needed_part set starts order n table r h = sym (length-take-le r.count table h.room)
+pub needed_room : (set starts ps table : List ℕ) (r : Option ℕ) → NamesTold Requirements set starts ps table r → (m : ℕ) → m ≡ unwrap_or r 0 → m ≤ length table
+needed_room set starts ps table r h m e = rw e (needed-inside set starts ps table r h)
+
+pub needed_part : (set starts ps table : List ℕ) (r : Option ℕ) → NamesTold Requirements set starts ps table r → (m : ℕ) → m ≡ unwrap_or r 0 → m ≡ length (take m table)
+needed_part set starts ps table r h m e = sym (length-take-le m table (needed_room set starts ps table r h m e))
 
 pub roots-wide : 16384 ≤ length (replicate {A = ℕ} 16384 0)
 roots-wide = rw (length-replicate {A = ℕ} 16384 0) (omega arith)
@@ -385,4 +400,4 @@ pub told_moved : (set request starts old : List ℕ) (phase : Phase) (known : Bo
 unfolding inputs_of
 told_moved set request starts old phase known order r l m = m
 
-pub ruleset told-laws = (later-short, later-within, later-told, roots-room, roots-part, needed_room, needed_part, later-set, told_moved)
+pub ruleset told_laws = (later-short, later-within, later-told, roots-room, roots-part, needed_room, needed_part, later-set, told_moved)

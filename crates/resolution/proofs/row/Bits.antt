@@ -11,7 +11,7 @@ use lib.Count.{count_trailing_zeros, trailing_le, under}
 use lib.Pow.{shr-shr, pow-lt}
 use mir.Syntax.{w64}
 use mir.Val.{Fits}
-use Rattle.resolution.specs.Row.{bit, FirstFrom}
+use Rattle.resolution.specs.Row.{bit, NoneFrom, First}
 
 -- a shift, its lowest digit, and the test
 pub bit-shift : (w b : ℕ) → eqb (w / 2 ^ b % 2) 1 ≡ bit w b
@@ -140,20 +140,15 @@ module _ (w b : ℕ) where
       let q : i ≡ b + (i - b) = omega arith in
       ap (bit w) q ∙ sym (bit-shr w b (i - b)) ∙ zeros-below 64 (w / 2 ^ b) (i - b) (omega arith)
 
-  pub first-none : b < 64 → 64 ≤ b + count_trailing_zeros 64 (w / 2 ^ b) → FirstFrom (bit w) b 64 64
-  first-none h l = record {
-    from = omega arith;
-    within = omega arith;
-    none = λ i f g. clear i f (omega arith);
-    found = λ g. absurd (omega arith);
-  }
+  pub first-none : 64 ≤ b + count_trailing_zeros 64 (w / 2 ^ b) → NoneFrom (bit w) b 64
+  first-none l = record { none = λ i f g. clear i f (omega arith) }
 
-  pub first_one : b + count_trailing_zeros 64 (w / 2 ^ b) < 64 → FirstFrom (bit w) b 64 (b + count_trailing_zeros 64 (w / 2 ^ b))
+  pub first_one : b + count_trailing_zeros 64 (w / 2 ^ b) < 64 → First (bit w) b 64 (b + count_trailing_zeros 64 (w / 2 ^ b))
   first_one l = record {
     from = omega arith;
-    within = omega arith;
+    below = l;
     none = clear;
-    found = λ _. sym (bit-shr w b (count_trailing_zeros 64 (w / 2 ^ b))) ∙ zeros-at 64 (w / 2 ^ b) (omega arith);
+    found = sym (bit-shr w b (count_trailing_zeros 64 (w / 2 ^ b))) ∙ zeros-at 64 (w / 2 ^ b) (omega arith);
   }
 
 pub zeros-fits : (w : ℕ) → Fits w64 (count_trailing_zeros 64 w)

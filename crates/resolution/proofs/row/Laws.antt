@@ -1,19 +1,18 @@
 -- The positions that a row holds, after a change of a word, of every word, and their count.
 use mathlib.Core.Path.{◌≡◌, refl, sym, ap, ap₂, ◌∙◌}
 use mathlib.Core.Bool.{Bool, true, false, ◌&&◌, ◌||◌, or-false}
-use mathlib.Core.List.{List, [], ◌∷◌}
+use mathlib.Core.List.{List}
 use Prim.Native.Nat.{ℕ, zero, suc, ◌+◌, ◌*◌, ◌/◌, ◌%◌, ◌^◌, ◌≤◌, ◌<◌}
 use native.Mathlib.Omega.{arith}
+use native.Mathlib.Nat.{le_refl}
 use lib.Dec.{eqb, ltb}
-use lib.ListN.{length, get_or, set, replicate, get_or-eq_default}
+use lib.ListN.{length, get_or, set, length-set, replicate, get_or-eq_default}
 use lib.Seq.{get_or-set_same, get_or-set_other}
-use lib.Count.{ones, ones-le}
-use mir.Syntax.{w64}
-use mir.Val.{Fits}
+use lib.Count.{ones}
 use lib.Bits.{bit_or, bit_and}
-use borrow.Author.Tests.{eq-eqb, ne_eqb, eqb-true, eqb-false, ltb-true, ltb-false}
+use borrow.Author.Tests.{eq-eqb, ne_eqb, eqb-true, eqb-false, ltb-true, ltb-false, le-ltb}
 use Rattle.records.proofs.Logic.{true≠false, by}
-use Rattle.resolution.specs.Row.{bit, holds, count_below, size, Empty, United, Intersected, Added, FirstFrom}
+use Rattle.resolution.specs.Row.{bit, holds, count_below, size, Empty, United, Intersected, Added, NoneFrom, First}
 use Rattle.resolution.proofs.row.Bits.{bit-zero, bit-or, bit-and}
 use Rattle.resolution.proofs.row.Counts.{count-zero, count_add, count_same, count_none, none-of-count, ones-bits}
 
@@ -53,31 +52,25 @@ word ws i h =
     (λ k l. ap₂ (λ (x y : ℕ). bit (get_or ws x 0) y) (omega arith) (omega arith))
     ∙ sym (ones-bits 64 (get_or ws i 0) h)
 
--- the ones of the eight words are the positions that are held
-pub size-ones : (ws : List ℕ) → ((i : ℕ) → get_or ws i 0 < 2 ^ 64)
-    → size ws ≡ ones (get_or ws 0 0) + ones (get_or ws 1 0) + ones (get_or ws 2 0) + ones (get_or ws 3 0) + ones (get_or ws 4 0) + ones (get_or ws 5 0) + ones (get_or ws 6 0) + ones (get_or ws 7 0)
-unfolding size
-size-ones ws h =
-    omega (
-      arith,
-      count_add (holds ws) 448 64,
-      count_add (holds ws) 384 64,
-      count_add (holds ws) 320 64,
-      count_add (holds ws) 256 64,
-      count_add (holds ws) 192 64,
-      count_add (holds ws) 128 64,
-      count_add (holds ws) 64 64,
-      count_add (holds ws) 0 64,
-      count-zero (holds ws),
-      word ws 0 (h 0),
-      word ws 1 (h 1),
-      word ws 2 (h 2),
-      word ws 3 (h 3),
-      word ws 4 (h 4),
-      word ws 5 (h 5),
-      word ws 6 (h 6),
-      word ws 7 (h 7),
-    )
+-- the ones of the first i words are the positions below 64 * i that are held
+pub record OnesAt (ws : List ℕ) (n i : ℕ) : Type 0 where
+  pub most : n ≤ 64 * i
+  pub so_far : n ≡ count_below (holds ws) (64 * i)
+
+pub ones-start : (ws : List ℕ) → OnesAt ws 0 0
+ones-start ws = record { most = omega arith; so_far = sym (count-zero (holds ws)) }
+
+module _ (ws : List ℕ) (n i : ℕ) (h : OnesAt ws n i) where
+  pub ones-next : (r : ℕ) → get_or ws i 0 < 2 ^ 64 → r ≡ ones (get_or ws i 0) → r ≤ 64 → OnesAt ws (n + r) (i + 1)
+  ones-next r f e l =
+      let z : 64 * (i + 1) ≡ 64 * i + 64 = omega arith in
+      record { most = omega (arith, h.most); so_far = rw z (rw (count_add (holds ws) (64 * i) 64, word ws i f, h.so_far, e)) }
+
+  pub ones-done : length ws ≡ 8 → length ws ≤ i → i ≤ length ws → n ≡ size ws
+  unfolding size
+  ones-done g l m = let z : 64 * i ≡ 512 = omega arith in h.so_far ∙ ap (count_below (holds ws)) z
+
+pub ruleset count-laws = (ones-start, ones-next, ones-done)
 
 -- ---- every word
 pub zero-at : (n i : ℕ) → ◌≡◌ {A = ℕ} (get_or (replicate n 0) i 0) 0
@@ -90,49 +83,20 @@ unfolding holds
 empty-zeros n = record { none = λ k. ap (λ (w : ℕ). bit w (k % 64)) (zero-at n (k / 64)) ∙ bit-zero (k % 64) }
 
 -- the words of two rows, one by one
-abbrev pub ors : List ℕ → List ℕ → List ℕ
-ors a b =
-    bit_or (get_or a 0 0) (get_or b 0 0) ∷ bit_or (get_or a 1 0) (get_or b 1 0) ∷ bit_or (get_or a 2 0) (get_or b 2 0) ∷ bit_or (get_or a 3 0) (get_or b 3 0) ∷ bit_or (get_or a 4 0) (get_or b 4 0) ∷ bit_or (get_or a 5 0) (get_or b 5 0) ∷ bit_or (get_or a 6 0) (get_or b 6 0) ∷ bit_or (get_or a 7 0) (get_or b 7 0) ∷ []
-
-ors-at : (a b : List ℕ) → length a ≡ 8 → length b ≡ 8 → (i : ℕ) → get_or (ors a b) i 0 ≡ bit_or (get_or a i 0) (get_or b i 0)
-ors-at a b p q zero = refl
-ors-at a b p q (suc zero) = refl
-ors-at a b p q (suc (suc zero)) = refl
-ors-at a b p q (suc (suc (suc zero))) = refl
-ors-at a b p q (suc (suc (suc (suc zero)))) = refl
-ors-at a b p q (suc (suc (suc (suc (suc zero))))) = refl
-ors-at a b p q (suc (suc (suc (suc (suc (suc zero)))))) = refl
-ors-at a b p q (suc (suc (suc (suc (suc (suc (suc zero))))))) = refl
-ors-at a b p q (suc (suc (suc (suc (suc (suc (suc (suc i)))))))) =
-    sym (ap₂ bit_or (get_or-eq_default a 0 {n = suc (suc (suc (suc (suc (suc (suc (suc i)))))))} (omega arith)) (get_or-eq_default b 0 {n = suc (suc (suc (suc (suc (suc (suc (suc i)))))))} (omega arith)))
-
-pub union-is : (a b : List ℕ) → length a ≡ 8 → length b ≡ 8 → United a b (ors a b)
-unfolding holds
-union-is a b p q = record {
-  either = λ k. ap (λ (w : ℕ). bit w (k % 64)) (ors-at a b p q (k / 64)) ∙ bit-or (get_or a (k / 64) 0) (get_or b (k / 64) 0) (k % 64);
+pub union-is : (a b ws : List ℕ) → length a ≡ 8 → length b ≡ 8 → length ws ≡ 8 → ((k : ℕ) → k < 8 → get_or ws k 0 ≡ bit_or (get_or a k 0) (get_or b k 0)) → United a b ws
+union-is a b ws p q n e = record {
+  either = λ k. by (ltb k 512)
+      (λ h. let l : k < 512 = ltb-true k 512 h in
+      unfold holds in (ap (λ (w : ℕ). bit w (k % 64)) (e (k / 64) (omega arith)) ∙ bit-or (get_or a (k / 64) 0) (get_or b (k / 64) 0) (k % 64)))
+      (λ h. let l : 512 ≤ k = ltb-false k 512 h in holds-out ws k n l ∙ sym (ap₂ (λ (s t : Bool). s || t) (holds-out a k p l) (holds-out b k q l)));
 }
 
-abbrev pub ands : List ℕ → List ℕ → List ℕ
-ands a b =
-    bit_and (get_or a 0 0) (get_or b 0 0) ∷ bit_and (get_or a 1 0) (get_or b 1 0) ∷ bit_and (get_or a 2 0) (get_or b 2 0) ∷ bit_and (get_or a 3 0) (get_or b 3 0) ∷ bit_and (get_or a 4 0) (get_or b 4 0) ∷ bit_and (get_or a 5 0) (get_or b 5 0) ∷ bit_and (get_or a 6 0) (get_or b 6 0) ∷ bit_and (get_or a 7 0) (get_or b 7 0) ∷ []
-
-ands-at : (a b : List ℕ) (i : ℕ) → i < 8 → get_or (ands a b) i 0 ≡ bit_and (get_or a i 0) (get_or b i 0)
-ands-at a b zero l = refl
-ands-at a b (suc zero) l = refl
-ands-at a b (suc (suc zero)) l = refl
-ands-at a b (suc (suc (suc zero))) l = refl
-ands-at a b (suc (suc (suc (suc zero)))) l = refl
-ands-at a b (suc (suc (suc (suc (suc zero))))) l = refl
-ands-at a b (suc (suc (suc (suc (suc (suc zero)))))) l = refl
-ands-at a b (suc (suc (suc (suc (suc (suc (suc zero))))))) l = refl
-ands-at a b (suc (suc (suc (suc (suc (suc (suc (suc i)))))))) l = absurd (omega arith)
-
-pub intersection-is : (a b : List ℕ) → length a ≡ 8 → Intersected a b (ands a b)
-intersection-is a b p = record {
+pub intersection-is : (a b ws : List ℕ) → length a ≡ 8 → length ws ≡ 8 → ((k : ℕ) → k < 8 → get_or ws k 0 ≡ bit_and (get_or a k 0) (get_or b k 0)) → Intersected a b ws
+intersection-is a b ws p n e = record {
   both = λ k. by (ltb k 512)
       (λ h. let l : k < 512 = ltb-true k 512 h in
-      unfold holds in (ap (λ (w : ℕ). bit w (k % 64)) (ands-at a b (k / 64) (omega arith)) ∙ bit-and (get_or a (k / 64) 0) (get_or b (k / 64) 0) (k % 64)))
-      (λ h. let l : 512 ≤ k = ltb-false k 512 h in holds-out (ands a b) k refl l ∙ sym (ap (λ (t : Bool). t && holds b k) (holds-out a k p l)));
+      unfold holds in (ap (λ (w : ℕ). bit w (k % 64)) (e (k / 64) (omega arith)) ∙ bit-and (get_or a (k / 64) 0) (get_or b (k / 64) 0) (k % 64)))
+      (λ h. let l : 512 ≤ k = ltb-false k 512 h in holds-out ws k n l ∙ sym (ap (λ (t : Bool). t && holds b k) (holds-out a k p l)));
 }
 
 -- ---- an empty row: `size` is 0 where nothing is held, and nowhere else
@@ -153,135 +117,103 @@ pub has_in : (ws : List ℕ) (k : ℕ) (r : Bool) → r ≡ bit (get_or ws (k / 
 unfolding holds
 has_in ws k r e = e
 
-pub has-out : (ws : List ℕ) (k : ℕ) → length ws ≡ 8 → 512 ≤ k → false ≡ holds ws k
-has-out ws k n h = sym (holds-out ws k n h)
-
--- word q of a row with position k more
-pub word_in : (w q k r : ℕ) → k / 64 ≡ q → ((b : ℕ) → bit r b ≡ bit w b || eqb b (k % 64)) → (b : ℕ) → bit r b ≡ bit w b || (eqb (k / 64) q && eqb b (k % 64))
-word_in w q k r e h b = rw (eq-eqb (k / 64) q e) (h b)
-
-pub word_out : (w q k : ℕ) → (k / 64 ≡ q → ⊥) → (b : ℕ) → bit w b ≡ bit w b || (eqb (k / 64) q && eqb b (k % 64))
-word_out w q k e b = rw (ne_eqb (k / 64) q e) (sym (or-false (bit w b)))
-
-module _ (ws : List ℕ) (k w₀ w₁ w₂ w₃ w₄ w₅ w₆ w₇ : ℕ) (n : length ws ≡ 8) (l : k < 512)
-    (h₀ : (b : ℕ) → bit w₀ b ≡ bit (get_or ws 0 0) b || (eqb (k / 64) 0 && eqb b (k % 64)))
-    (h₁ : (b : ℕ) → bit w₁ b ≡ bit (get_or ws 1 0) b || (eqb (k / 64) 1 && eqb b (k % 64)))
-    (h₂ : (b : ℕ) → bit w₂ b ≡ bit (get_or ws 2 0) b || (eqb (k / 64) 2 && eqb b (k % 64)))
-    (h₃ : (b : ℕ) → bit w₃ b ≡ bit (get_or ws 3 0) b || (eqb (k / 64) 3 && eqb b (k % 64)))
-    (h₄ : (b : ℕ) → bit w₄ b ≡ bit (get_or ws 4 0) b || (eqb (k / 64) 4 && eqb b (k % 64)))
-    (h₅ : (b : ℕ) → bit w₅ b ≡ bit (get_or ws 5 0) b || (eqb (k / 64) 5 && eqb b (k % 64)))
-    (h₆ : (b : ℕ) → bit w₆ b ≡ bit (get_or ws 6 0) b || (eqb (k / 64) 6 && eqb b (k % 64)))
-    (h₇ : (b : ℕ) → bit w₇ b ≡ bit (get_or ws 7 0) b || (eqb (k / 64) 7 && eqb b (k % 64))) where
-  words-at : (q b : ℕ) → bit (get_or (w₀ ∷ w₁ ∷ w₂ ∷ w₃ ∷ w₄ ∷ w₅ ∷ w₆ ∷ w₇ ∷ []) q 0) b ≡ bit (get_or ws q 0) b || (eqb (k / 64) q && eqb b (k % 64))
-  words-at zero b = h₀ b
-  words-at (suc zero) b = h₁ b
-  words-at (suc (suc zero)) b = h₂ b
-  words-at (suc (suc (suc zero))) b = h₃ b
-  words-at (suc (suc (suc (suc zero)))) b = h₄ b
-  words-at (suc (suc (suc (suc (suc zero))))) b = h₅ b
-  words-at (suc (suc (suc (suc (suc (suc zero)))))) b = h₆ b
-  words-at (suc (suc (suc (suc (suc (suc (suc zero))))))) b = h₇ b
-  words-at (suc (suc (suc (suc (suc (suc (suc (suc q)))))))) b =
-      let g : get_or ws (suc (suc (suc (suc (suc (suc (suc (suc q)))))))) 0 ≡ 0 = get_or-eq_default ws 0 {n = suc (suc (suc (suc (suc (suc (suc (suc q)))))))} (omega arith) in
-      rw (g, ne_eqb (k / 64) (suc (suc (suc (suc (suc (suc (suc (suc q)))))))) (omega arith)) (sym (or-false (bit 0 b)))
-
-  same_place : (j : ℕ) → (eqb (k / 64) (j / 64) && eqb (j % 64) (k % 64)) ≡ eqb j k
-  same_place j = go (eqb (k / 64) (j / 64)) refl
-    where
-      go : (t : Bool) → eqb (k / 64) (j / 64) ≡ t → (t && eqb (j % 64) (k % 64)) ≡ eqb j k
-      go true e = eqb-parts j k (sym (eqb-true (k / 64) (j / 64) e))
-      go false e = sym (ne_eqb j k (λ i. true≠false (eq-eqb (k / 64) (j / 64) (ap (λ (z : ℕ). z / 64) (sym i))) e))
-
-  with_in : Added ws k (w₀ ∷ w₁ ∷ w₂ ∷ w₃ ∷ w₄ ∷ w₅ ∷ w₆ ∷ w₇ ∷ [])
-  unfolding holds
-  with_in = record { below = λ _ j. words-at (j / 64) (j % 64) ∙ rw (same_place j); above = λ g. absurd (omega arith) }
+pub has-out : (ws : List ℕ) (k : ℕ) → length ws ≡ 8 → 512 ≤ k → ltb k 512 ≡ holds ws k
+has-out ws k n h = le-ltb k 512 h ∙ sym (holds-out ws k n h)
 
 -- w is word q with position k, where k is in it
-abbrev WordOf : List ℕ → ℕ → ℕ → ℕ → Type 0
+abbrev pub WordOf : List ℕ → ℕ → ℕ → ℕ → Type 0
 WordOf ws k q w = (b : ℕ) → bit w b ≡ bit (get_or ws q 0) b || (eqb (k / 64) q && eqb b (k % 64))
 
-module _ (ws : List ℕ) (k : ℕ) (n : length ws ≡ 8) where
-  pub with-low : (w₀ w₁ w₂ w₃ : ℕ) → k < 256 → WordOf ws k 0 w₀ → WordOf ws k 1 w₁ → WordOf ws k 2 w₂ → WordOf ws k 3 w₃
-      → Added ws k (w₀ ∷ w₁ ∷ w₂ ∷ w₃ ∷ get_or ws 4 0 ∷ get_or ws 5 0 ∷ get_or ws 6 0 ∷ get_or ws 7 0 ∷ [])
-  with-low w₀ w₁ w₂ w₃ l a b c d = with_in ws k w₀ w₁ w₂ w₃ (get_or ws 4 0) (get_or ws 5 0) (get_or ws 6 0) (get_or ws 7 0) n (omega arith)
-      a b c d (word_out (get_or ws 4 0) 4 k (λ e. omega arith)) (word_out (get_or ws 5 0) 5 k (λ e. omega arith)) (word_out (get_or ws 6 0) 6 k (λ e. omega arith)) (word_out (get_or ws 7 0) 7 k (λ e. omega arith))
+-- the words before q are made anew, and the others are as they were
+pub record WithAt (ws : List ℕ) (k : ℕ) (out : List ℕ) (q : ℕ) : Type 0 where
+  pub long : length out ≡ 8
+  pub new : (i : ℕ) → i < q → WordOf ws k i (get_or out i 0)
+  pub still : (i : ℕ) → q ≤ i → get_or out i 0 ≡ get_or ws i 0
 
-  pub with-high : (w₄ w₅ w₆ w₇ : ℕ) → 256 ≤ k → k < 512 → WordOf ws k 4 w₄ → WordOf ws k 5 w₅ → WordOf ws k 6 w₆ → WordOf ws k 7 w₇
-      → Added ws k (get_or ws 0 0 ∷ get_or ws 1 0 ∷ get_or ws 2 0 ∷ get_or ws 3 0 ∷ w₄ ∷ w₅ ∷ w₆ ∷ w₇ ∷ [])
-  with-high w₄ w₅ w₆ w₇ g l a b c d = with_in ws k (get_or ws 0 0) (get_or ws 1 0) (get_or ws 2 0) (get_or ws 3 0) w₄ w₅ w₆ w₇ n l
-      (word_out (get_or ws 0 0) 0 k (λ e. omega arith)) (word_out (get_or ws 1 0) 1 k (λ e. omega arith)) (word_out (get_or ws 2 0) 2 k (λ e. omega arith)) (word_out (get_or ws 3 0) 3 k (λ e. omega arith)) a b c d
+pub with-start : (ws : List ℕ) (k : ℕ) → length ws ≡ 8 → WithAt ws k ws 0
+with-start ws k n = record { long = n; new = λ i l. absurd (omega arith); still = λ i l. refl }
+
+module _ (ws : List ℕ) (k : ℕ) (out : List ℕ) (q : ℕ) (h : WithAt ws k out q) where
+  pub with-next : (w : ℕ) → q < 8 → ((b : ℕ) → bit w b ≡ bit (get_or out q 0) b || (eqb (k / 64) q && eqb b (k % 64))) → WithAt ws k (set out q w) (q + 1)
+  with-next w l e = record {
+    long = length-set out q w ∙ h.long;
+    new = λ i m. by (eqb i q) (λ y. same i (eqb-true i q y)) (λ y. other i m (eqb-false i q y));
+    still = λ i m. get_or-set_other out q i w 0 (λ z. omega arith) ∙ h.still i (omega arith);
+  }
+    where
+      same : (i : ℕ) → i ≡ q → WordOf ws k i (get_or (set out q w) i 0)
+      same i z b =
+          let r : q < length out = omega (arith, h.long) in
+          rw (z, get_or-set_same out q w 0 r, ← h.still q (le_refl q)) (e b)
+
+      other : (i : ℕ) → i < q + 1 → (i ≡ q → ⊥) → WordOf ws k i (get_or (set out q w) i 0)
+      other i m z b = rw (get_or-set_other out q i w 0 z) (h.new i (omega arith) b)
+
+  pub with-done : k < 512 → length ws ≡ 8 → 8 ≤ q → Added ws k out
+  unfolding holds
+  with-done l n m = record { below = λ _ j. words-at (j / 64) (j % 64) ∙ ap (λ (t : Bool). bit (get_or ws (j / 64) 0) (j % 64) || t) (same_place j); above = λ g. absurd (omega arith) }
+    where
+      words-at : (i b : ℕ) → bit (get_or out i 0) b ≡ bit (get_or ws i 0) b || (eqb (k / 64) i && eqb b (k % 64))
+      words-at i b = by (ltb i 8)
+          (λ y. let z : i < 8 = ltb-true i 8 y in h.new i (omega arith) b)
+          (λ y. let z : 8 ≤ i = ltb-false i 8 y in
+          let o : get_or out i 0 ≡ get_or ws i 0 = get_or-eq_default out 0 {n = i} (omega (arith, h.long)) ∙ sym (get_or-eq_default ws 0 {n = i} (omega arith)) in
+          ap (λ (w : ℕ). bit w b) o ∙ sym (or-false (bit (get_or ws i 0) b))
+          ∙ ap (λ (t : Bool). bit (get_or ws i 0) b || (t && eqb b (k % 64))) (sym (ne_eqb (k / 64) i (λ e. omega arith))))
+
+      same_place : (j : ℕ) → (eqb (k / 64) (j / 64) && eqb (j % 64) (k % 64)) ≡ eqb j k
+      same_place j = go (eqb (k / 64) (j / 64)) refl
+        where
+          go : (t : Bool) → eqb (k / 64) (j / 64) ≡ t → (t && eqb (j % 64) (k % 64)) ≡ eqb j k
+          go true e = eqb-parts j k (sym (eqb-true (k / 64) (j / 64) e))
+          go false e = sym (ne_eqb j k (λ i. true≠false (eq-eqb (k / 64) (j / 64) (ap (λ (z : ℕ). z / 64) (sym i))) e))
 
 pub with_out : (ws : List ℕ) (k : ℕ) → 512 ≤ k → Added ws k ws
 with_out ws k l = record { below = λ g. absurd (omega arith); above = λ _. refl }
 
-pub count-is : (ws : List ℕ) (a b c d e f g h : ℕ) → ((i : ℕ) → Fits w64 (get_or ws i 0))
-    → a ≡ ones (get_or ws 0 0) → b ≡ ones (get_or ws 1 0) → c ≡ ones (get_or ws 2 0) → d ≡ ones (get_or ws 3 0) → e ≡ ones (get_or ws 4 0) → f ≡ ones (get_or ws 5 0)
-    → g ≡ ones (get_or ws 6 0) → h ≡ ones (get_or ws 7 0) → a + b + c + d + e + f + g + h ≡ size ws
-count-is ws a b c d e f g h fits p₀ p₁ p₂ p₃ p₄ p₅ p₆ p₇ = omega (arith, size-ones ws (λ i. (fits i).fits))
-
-pub ones-fits : (w : ℕ) → Fits w64 w → Fits w64 (ones w)
-ones-fits w f = record { fits = omega (arith, ones-le 64 w f.fits) }
-
-pub ones_64 : (w : ℕ) → Fits w64 w → ones w ≤ 64
-ones_64 w f = ones-le 64 w f.fits
-
-pub is-empty-is : (n m : ℕ) → n ≡ m → eqb n 0 ≡ eqb m 0
-is-empty-is n m e = ap (λ (x : ℕ). eqb x 0) e
-
 -- ---- the next position: none from k on and before `at` is held
 pub record NextAt (ws : List ℕ) (k at : ℕ) : Type 0 where
   pub from : k ≤ at
-  pub within : at ≤ 512
   pub none : (i : ℕ) → k ≤ i → i < at → holds ws i ≡ false
 
-pub next_start : (ws : List ℕ) (k : ℕ) → k ≤ 512 → NextAt ws k k
-next_start ws k h = record { from = omega arith; within = h; none = λ i f l. absurd (omega arith) }
+pub next_start : (ws : List ℕ) (k : ℕ) → NextAt ws k k
+next_start ws k = record { from = omega arith; none = λ i f l. absurd (omega arith) }
 
 module _ {ws : List ℕ} {k at : ℕ} (h : NextAt ws k at) where
-  -- nor is any before bit b of the word of `at`, the first that is set there
-  clear : (b : ℕ) → FirstFrom (bit (get_or ws (at / 64) 0)) (at % 64) 64 b → (i : ℕ) → k ≤ i → i < at / 64 * 64 + b → holds ws i ≡ false
+  -- nor is any before bit b of the word of `at`, where none is set there from that of `at` on
+  clear : (b : ℕ) → b ≤ 64 → ((i : ℕ) → at % 64 ≤ i → i < b → bit (get_or ws (at / 64) 0) i ≡ false)
+      → (i : ℕ) → k ≤ i → i < at / 64 * 64 + b → holds ws i ≡ false
   unfolding holds
-  clear b o i f l = go (ltb i at) refl
+  clear b m o i f l = go (ltb i at) refl
     where
       go : (t : Bool) → ltb i at ≡ t → holds ws i ≡ false
       go true e = h.none i f (ltb-true i at e)
       go false e =
           let g : at ≤ i = ltb-false i at e in
-          let m : b ≤ 64 = o.within in
           let q : i / 64 ≡ at / 64 = omega arith in
-          ap (λ (x : ℕ). bit (get_or ws x 0) (i % 64)) q ∙ o.none (i % 64) (omega arith) (omega arith)
+          ap (λ (x : ℕ). bit (get_or ws x 0) (i % 64)) q ∙ o (i % 64) (omega arith) (omega arith)
 
-  pub next-found : (b : ℕ) → at < 512 → FirstFrom (bit (get_or ws (at / 64) 0)) (at % 64) 64 b → b < 64
-      → FirstFrom (holds ws) k 512 (at / 64 * 64 + b)
+  pub next-found : (b : ℕ) → at < 512 → First (bit (get_or ws (at / 64) 0)) (at % 64) 64 b → First (holds ws) k 512 (at / 64 * 64 + b)
   unfolding holds
-  next-found b a o l =
+  next-found b a o =
+      let l : b < 64 = o.below in
       let q : (at / 64 * 64 + b) / 64 ≡ at / 64 = omega arith in
       let r : (at / 64 * 64 + b) % 64 ≡ b = omega arith in
       record {
         from = omega (arith, h.from, o.from);
-        within = omega arith;
-        none = clear b o;
-        found = λ _. ap₂ (λ (x y : ℕ). bit (get_or ws x 0) y) q r ∙ o.found l;
+        below = omega arith;
+        none = clear b (omega arith) o.none;
+        found = ap₂ (λ (x y : ℕ). bit (get_or ws x 0) y) q r ∙ o.found;
       }
 
-  pub next-on : (b : ℕ) → at < 512 → FirstFrom (bit (get_or ws (at / 64) 0)) (at % 64) 64 b → 64 ≤ b → NextAt ws k (at / 64 * 64 + 64)
-  next-on b a o l =
-      record { from = omega (arith, h.from); within = omega arith; none = λ i f g. clear b o i f (omega arith) }
+  pub next-on : at < 512 → NoneFrom (bit (get_or ws (at / 64) 0)) (at % 64) 64 → NextAt ws k (at / 64 * 64 + 64)
+  next-on a o = record { from = omega (arith, h.from); none = clear 64 (omega arith) o.none }
 
-  pub next-end : 512 ≤ at → FirstFrom (holds ws) k 512 512
-  next-end l = record {
-    from = omega (arith, h.from, h.within);
-    within = omega arith;
-    none = λ i f g. h.none i f (omega arith);
-    found = λ g. absurd (omega arith);
-  }
+  pub next-end : 512 ≤ at → NoneFrom (holds ws) k 512
+  next-end l = record { none = λ i f g. h.none i f (omega arith) }
 
 pub ruleset next-laws = (next_start, next-found, next-on, next-end)
 
 pub ruleset has-laws = (has_in, has-out)
 
-pub ruleset ones-laws = (ones-fits, ones_64)
-
-pub ruleset word-of-laws = (word_in, word_out)
-
-pub ruleset with-laws = (with-low, with-high, with_out)
+pub ruleset with-laws = (with-start, with-next, with-done, with_out)

@@ -13,7 +13,6 @@ use Rattle.records.specs.Set.{check_set, name_at, modules}
 use Rattle.records.specs.Finder.{is_first}
 use Rattle.records.specs.Sorted.{has_position, entries_in, table_in}
 use Rattle.records.specs.Sorted as Sorted
-use Rattle.records.specs.declared.set.SetAnswer.TheVariants.{Modules}
 use Rattle.records.proofs.Logic.{by}
 use Rattle.records.proofs.set.Blocks.{good-set}
 use Rattle.records.proofs.sorted.Growth as Growth
@@ -29,6 +28,7 @@ use Rattle.resolution.proofs.Positions.{visible_in}
 use Rattle.resolution.proofs.Sets.{set-length, visible-start}
 use Rattle.resolution.proofs.configuration.Laws.{read-added, read-long}
 use Rattle.resolution.proofs.row.Laws.{empty-zeros}
+use Rattle.std.specs.Prelude.{Ok}
 
 has_last : (j p : ℕ) (l : List ℕ) → has_position j (l ++ (p ∷ [])) ≡ has_position j l || eqb j p
 unfolding has_position
@@ -66,7 +66,7 @@ module _ (s t index : List ℕ) (n : ℕ) (x : Lookup s t n index) where
           so_far = λ j. a.below small j ∙ rw (h.so_far j) (sym (rw (add-one k, take-suc (table_in index) k 0 kt, ea) (has_last j p (take k (table_in index)))));
         }
 
-    module _ (e : check_set s ≡ record { answer = Modules n; starts = t }) where
+    module _ (e : check_set s ≡ Ok (record { count = n; starts = t })) where
       there : (j : ℕ) → has_position j (table_in index) ≡ is_visible (modules s) j
       unfolding Sorted.is_visible
       there j = by (ltb j n)

@@ -6,6 +6,8 @@ use mathlib.Core.List.{List, [], ◌∷◌, map}
 use native.Mathlib.Omega.{arith}
 use lib.ListN.{length, take, length-map}
 use lib.Seq.{take-length}
+use Rattle.std.proofs.lemmas.List.{take_min}
+use Rattle.std.specs.Prelude.{min}
 use Rattle.records.specs.Bytes.{same_bytes}
 use Rattle.records.specs.Name.{java_base, mem_name, name_of}
 use Rattle.records.specs.Descriptor.{requirement_of, Requirement}
@@ -17,8 +19,7 @@ use Rattle.records.specs.Sorted.{Indexed}
 use Rattle.records.specs.declared.error.Input.{Input}
 use Rattle.records.specs.declared.error.ModuleError.{ModuleError}
 use Rattle.records.specs.declared.error.ModuleError.TheVariants.{ModuleNotFound, JavaBaseNotFound}
-use Rattle.records.specs.declared.finder.Found.{Found}
-use Rattle.records.specs.declared.finder.Found.TheVariants.{At, Nothing}
+use Rattle.records.specs.Finder.{Found}
 use Rattle.records.proofs.finder.Modules.{found_at}
 use Rattle.resolution.specs.Resolution.{leads}
 use Rattle.resolution.specs.Row.{holds}
@@ -28,6 +29,27 @@ use Rattle.resolution.specs.Known.{Limits, Met, Tables}
 use Rattle.resolution.specs.declared.resolver.Phase.{Phase}
 use Rattle.resolution.specs.declared.resolver.Wanted.{Wanted}
 use Rattle.resolution.specs.declared.resolver.Wanted.TheVariants.{Pass, Add, Stop, Refuse}
+use Rattle.std.specs.Prelude.{Some, None}
+
+-- what the calls ask
+module _ (set request starts old : List ℕ) (phase : Phase) (index names needed : List ℕ) (h : Tables set request starts old phase index names needed) where
+  pub want-few : phase.count ≤ 512
+  want-few = h.lookup.few
+
+  pub want-inside : phase.count ≤ length starts
+  want-inside = h.lookup.within
+
+  pub want-indexed : Indexed (map (name_at set) (take phase.count starts)) index
+  want-indexed = h.lookup.indexed
+
+  pub want-limits : Limits request phase names
+  want-limits = h.limits
+
+  pub want-met : Met set request starts old phase names needed
+  want-met = h.met
+
+  pub want-statics : phase.statics ≡ (request_of request).has_static
+  want-statics = h.statics
 
 -- ---- whether the request permits an absent name
 
@@ -48,7 +70,7 @@ module _ (request : List ℕ) (phase : Phase) (names n : List ℕ) (h : Limits r
 pub whole-table : (l : List ℕ) → length l ≤ length l
 whole-table l = omega arith
 
-pub ruleset permits-laws = (permits-free, permits-base, permits-listed, permits-sorted, whole-table)
+pub ruleset permits_laws = (want-limits, permits-free, permits-base, permits-listed, permits-sorted, whole-table)
 
 -- ---- whether an absent name was met before the rounds
 
@@ -72,11 +94,14 @@ module _ (set request starts old : List ℕ) (phase : Phase) (names needed n : L
   pub met-sorted_needed : phase.known ≡ true → phase.in_round ≡ true → is_ordered (map (name_in set) (take (length needed) needed)) ≡ true
   met-sorted_needed k t = rw (take-length needed) (h.sorted_needed k t)
 
-  pub met-before : (r : Bool) → r ≡ is_met_before (asked_before set request starts (take phase.before old)) n → r ≡ is_met_before v n
+  pub met-before : (m : ℕ) → m ≡ min phase.before (length old) → (r : Bool) → r ≡ is_met_before (asked_before set request starts (take m old)) n → r ≡ is_met_before v n
   unfolding inputs_of is_met_before block_of
-  met-before r er = er
+  met-before m e r er = er ∙ rw (e, take_min phase.before old)
 
-pub ruleset met-laws = (met-root, met_needed, met-sorted, met-sorted_needed, met-before, whole-table)
+pub before-inside : (n m k : ℕ) → m ≡ min n k → m ≤ k
+before-inside n m k e = rw e (omega arith)
+
+pub ruleset met_laws = (want-met, met-root, met_needed, met-sorted, met-sorted_needed, met-before, before-inside, whole-table)
 
 -- ---- an absent name
 
@@ -131,7 +156,7 @@ pub within-refuse : (count : ℕ) (e : ModuleError) → Within count (Refuse e)
 unfolding Within
 within-refuse count e = tt
 
-pub ruleset absent-laws = (absent-met, absent-refuse, absent-passed, absent-base, absent-stop, within-pass, within-stop, within-refuse)
+pub ruleset absent_laws = (absent-met, absent-refuse, absent-passed, absent-base, absent-stop, within-pass, within-stop, within-refuse)
 
 -- ---- any name
 
@@ -146,7 +171,7 @@ module _ (set request starts old : List ℕ) (phase : Phase) (n : List ℕ) (opt
   unfolding inputs_of locate
   located = sym ef
 
-  module _ (i : ℕ) (h : f ≡ At i) (r : Bool) (er : r ≡ holds phase.permitted i) where
+  module _ (i : ℕ) (h : f ≡ Some i) (r : Bool) (er : r ≡ holds phase.permitted i) where
     permitted_at : holds (inputs_of set request starts old phase).permitted i ≡ r
     unfolding inputs_of
     permitted_at = sym er
@@ -159,13 +184,13 @@ module _ (set request starts old : List ℕ) (phase : Phase) (n : List ℕ) (opt
     unfolding want want_found
     want-pass t = sym (rw (located, h, permitted_at, t))
 
-  pub within-add : (i : ℕ) → f ≡ At i → Within phase.count (Add i)
+  pub within-add : (i : ℕ) → f ≡ Some i → Within phase.count (Add i)
   unfolding Within
   within-add i h =
       let p = found_at (map (name_at set) (take phase.count starts)) n 0 i (sym ef ∙ h) in
       omega (arith, p.within, length-map (take phase.count starts) (name_at set), few phase.count starts)
 
-  module _ (h : f ≡ Nothing) where
+  module _ (h : f ≡ None) where
     pub want-optional : optional ≡ true → Pass ≡ want (inputs_of set request starts old phase) n optional e
     unfolding want want_found
     want-optional t = sym (rw (located, h, t))
@@ -174,27 +199,7 @@ module _ (set request starts old : List ℕ) (phase : Phase) (n : List ℕ) (opt
     unfolding want want_found
     want_unfound_lem t r er = sym (rw (located, h, t, er))
 
--- what the calls ask
-module _ (set request starts old : List ℕ) (phase : Phase) (index names needed : List ℕ) (h : Tables set request starts old phase index names needed) where
-  pub want-few : phase.count ≤ 512
-  want-few = h.lookup.few
-
-  pub want-inside : phase.count ≤ length starts
-  want-inside = h.lookup.within
-
-  pub want-indexed : Indexed (map (name_at set) (take phase.count starts)) index
-  want-indexed = h.lookup.indexed
-
-  pub want-limits : Limits request phase names
-  want-limits = h.limits
-
-  pub want-met : Met set request starts old phase names needed
-  want-met = h.met
-
-  pub want-statics : phase.statics ≡ (request_of request).has_static
-  want-statics = h.statics
-
-pub ruleset want-laws = (want-few, want-inside, want-indexed, want-limits, want-met, want-add, want-pass, want-optional, want_unfound_lem, within-add, within-pass)
+pub ruleset want_laws = (want-few, want-inside, want-indexed, want-limits, want-met, want-add, want-pass, want-optional, want_unfound_lem, within-add, within-pass)
 
 -- ---- a record
 
@@ -208,7 +213,7 @@ module _ (r : Requirement) (static : Bool) (es : static ≡ r.static) (statics :
   unfolding leads
   leads-not_static f rq e = sym (rw (← es, f))
 
-pub ruleset leads-laws = (leads_static, leads-not_static)
+pub ruleset leads_laws = (leads_static, leads-not_static)
 
 module _ (set request starts old : List ℕ) (phase : Phase) (input : Input) (ei : input ≡ Input.Set) (b : List ℕ) (start : ℕ)
     (es : phase.statics ≡ (request_of request).has_static) (l : Bool) (el : (rq : Request) → phase.statics ≡ rq.has_static → l ≡ leads rq (requirement_of b)) where

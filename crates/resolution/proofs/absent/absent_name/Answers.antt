@@ -14,8 +14,8 @@ part-requires-in-Packages c = search (absent-laws, rules)
 pub part-requires-in_default : goal.part-requires-in_default
 part-requires-in_default c = search (absent-laws, rules)
 
-pub part-requires-in-Accepted : goal.part-requires-in-Accepted
-part-requires-in-Accepted c = search (absent-laws, rules)
+pub part-requires-in-Ok : goal.part-requires-in-Ok
+part-requires-in-Ok c = search (absent-laws, rules)
 
 pub returns-in-Set : goal.returns-in-Set
 returns-in-Set c = search (absent-laws, rules)
@@ -29,5 +29,5 @@ returns-in-Packages c = search (absent-laws, rules)
 pub returns-in_default : goal.returns-in_default
 returns-in_default c = search (absent-laws, rules)
 
-pub returns-in-Accepted : goal.returns-in-Accepted
-returns-in-Accepted c = search (absent-laws, rules)
+pub returns-in-Ok : goal.returns-in-Ok
+returns-in-Ok c = search (absent-laws, rules)

@@ -1,28 +1,10 @@
 use Rattle.resolution.proofs.configuration.Laws.{add-read-laws}
 use borrow.Author.Rules.{rules}
-use borrow.Author.Rules.{rules}
 use Rattle.resolution.proofs.configuration.add_read.Goals as goal
-
-pub offset_bounds-row-at : goal.offset_bounds-row-at
-offset_bounds-row-at c = search (add-read-laws, rules)
-
-pub bounds-row-at : goal.bounds-row-at
-bounds-row-at c = search (add-read-laws, rules)
-
-pub word_with-requires : goal.word_with-requires
-word_with-requires c = search (add-read-laws, rules)
-
-pub offset_bounds-row-at-then-at-row : goal.offset_bounds-row-at-then-at-row
-offset_bounds-row-at-then-at-row c = search (add-read-laws, rules)
-
-pub bounds-row-at-then-at-row : goal.bounds-row-at-then-at-row
-bounds-row-at-then-at-row c = search (add-read-laws, rules)
+use Rattle.resolution.proofs.configuration.add_read.Goals.{else-j-lt512-via-then-j-lt512+else-at-row, else-j-lt512-via-else-j-lt512}
 
 pub returns-then-at-row : goal.returns-then-at-row
 returns-then-at-row c = search (add-read-laws, rules)
 
-pub returns-else-at-row : goal.returns-else-at-row
-returns-else-at-row c = search (add-read-laws, rules)
-
 pub returns-else-j-lt512 : goal.returns-else-j-lt512
-returns-else-j-lt512 c = search (add-read-laws, rules)
+returns-else-j-lt512 c = elim c.else-j-lt512.branch [ else-j-lt512-via-then-j-lt512+else-at-row w ↦ search (add-read-laws, rules) | else-j-lt512-via-else-j-lt512 w ↦ search (add-read-laws, rules) ]

@@ -1,6 +1,5 @@
 use Rattle.resolution.proofs.configuration.Laws.{members-is}
 use borrow.Author.Rules.{rules}
-use borrow.Author.Rules.{rules}
 use Rattle.resolution.proofs.configuration.members.Goals as goal
 
 pub returns : goal.returns

@@ -5,17 +5,14 @@ use Rattle.resolution.proofs.configure.permitted.Goals as goal
 pub next-requires : goal.next-requires
 next-requires c = search (permitted_laws, rules)
 
-pub part-requires : goal.part-requires
-part-requires c = search (permitted_laws, rules)
-
 pub permitted_by-requires : goal.permitted_by-requires
 permitted_by-requires c = search (permitted_laws, rules)
 
 pub visible-requires : goal.visible-requires
 visible-requires c = search (permitted_laws, rules)
 
-pub returns-in-Body : goal.returns-in-Body
-returns-in-Body c = search (permitted_laws, rules)
+pub returns-in-Some : goal.returns-in-Some
+returns-in-Some c = search (permitted_laws, rules)
 
-pub returns-in-Nothing : goal.returns-in-Nothing
-returns-in-Nothing c = search (permitted_laws, rules)
+pub returns-in-None : goal.returns-in-None
+returns-in-None c = search (permitted_laws, rules)

@@ -1,79 +1,13 @@
-use Rattle.resolution.proofs.graph.Rows.{row-of_in}
-use borrow.Author.Rules.{rules}
-use borrow.Author.Rules.{rules}
+use Rattle.std.proofs.Common.{rules, arith, ◌≡◌, ◌∙◌, ap, ℕ, ◌+◌, ◌-◌, ◌*◌, ◌<◌, List, get_or, drop}
+use Rattle.std.proofs.Math.Seq.{get_or-take, get_or-drop}
+use Rattle.resolution.proofs.graph.Edges.{row-edges}
 use Rattle.resolution.proofs.graph.row_at.Goals as goal
 
-pub overflow_mul-at : goal.overflow_mul-at
-overflow_mul-at c = search (row-of_in, rules)
-
-pub offset_bounds-g-at : goal.offset_bounds-g-at
-offset_bounds-g-at c = search (row-of_in, rules)
-
-pub bounds-g-at : goal.bounds-g-at
-bounds-g-at c = search (row-of_in, rules)
-
-pub overflow_add-words : goal.overflow_add-words
-overflow_add-words c = search (row-of_in, rules)
-
-pub offset_bounds-g-at-2 : goal.offset_bounds-g-at-2
-offset_bounds-g-at-2 c = search (row-of_in, rules)
-
-pub bounds-g-at-2 : goal.bounds-g-at-2
-bounds-g-at-2 c = search (row-of_in, rules)
-
-pub overflow_add-words-2 : goal.overflow_add-words-2
-overflow_add-words-2 c = search (row-of_in, rules)
-
-pub offset_bounds-g-at-3 : goal.offset_bounds-g-at-3
-offset_bounds-g-at-3 c = search (row-of_in, rules)
-
-pub bounds-g-at-3 : goal.bounds-g-at-3
-bounds-g-at-3 c = search (row-of_in, rules)
-
-pub overflow_add-words-3 : goal.overflow_add-words-3
-overflow_add-words-3 c = search (row-of_in, rules)
-
-pub offset_bounds-g-at-4 : goal.offset_bounds-g-at-4
-offset_bounds-g-at-4 c = search (row-of_in, rules)
-
-pub bounds-g-at-4 : goal.bounds-g-at-4
-bounds-g-at-4 c = search (row-of_in, rules)
-
-pub overflow_add-words-4 : goal.overflow_add-words-4
-overflow_add-words-4 c = search (row-of_in, rules)
-
-pub offset_bounds-g-at-5 : goal.offset_bounds-g-at-5
-offset_bounds-g-at-5 c = search (row-of_in, rules)
-
-pub bounds-g-at-5 : goal.bounds-g-at-5
-bounds-g-at-5 c = search (row-of_in, rules)
-
-pub overflow_add-words-5 : goal.overflow_add-words-5
-overflow_add-words-5 c = search (row-of_in, rules)
-
-pub offset_bounds-g-at-6 : goal.offset_bounds-g-at-6
-offset_bounds-g-at-6 c = search (row-of_in, rules)
-
-pub bounds-g-at-6 : goal.bounds-g-at-6
-bounds-g-at-6 c = search (row-of_in, rules)
-
-pub overflow_add-words-6 : goal.overflow_add-words-6
-overflow_add-words-6 c = search (row-of_in, rules)
-
-pub offset_bounds-g-at-7 : goal.offset_bounds-g-at-7
-offset_bounds-g-at-7 c = search (row-of_in, rules)
-
-pub bounds-g-at-7 : goal.bounds-g-at-7
-bounds-g-at-7 c = search (row-of_in, rules)
-
-pub overflow_add-words-7 : goal.overflow_add-words-7
-overflow_add-words-7 c = search (row-of_in, rules)
-
-pub offset_bounds-g-at-8 : goal.offset_bounds-g-at-8
-offset_bounds-g-at-8 c = search (row-of_in, rules)
-
-pub bounds-g-at-8 : goal.bounds-g-at-8
-bounds-g-at-8 c = search (row-of_in, rules)
-
 pub returns : goal.returns
-returns c = search (row-of_in, rules)
+returns c =
+    let g : List ℕ = c.args.g.now in
+    let i : ℕ = c.args.i in
+    let e : (k : ℕ) → k < 8 → get_or c.copy_from_slice.new.self k 0 ≡ get_or g (i * 9 + k) 0 =
+    λ k l. ap (λ (s : List ℕ). get_or s k 0) c.copy_from_slice.ensures.after
+    ∙ get_or-take (i * 9 + 8 - i * 9) (drop (i * 9) g) k 0 (omega arith) ∙ get_or-drop (i * 9) g k 0 in
+    row-edges g i c.copy_from_slice.new.self (search rules) e

@@ -24,8 +24,8 @@ slice_bounds-add_read-end c = search (set-edge-laws, rules)
 pub add_read-requires : goal.add_read-requires
 add_read-requires c = search (set-edge-laws, rules)
 
-pub returns-in-At : goal.returns-in-At
-returns-in-At c = search (set-edge-laws, rules)
+pub returns-in-Some : goal.returns-in-Some
+returns-in-Some c = search (set-edge-laws, rules)
 
-pub returns-in-Nothing : goal.returns-in-Nothing
-returns-in-Nothing c = search (set-edge-laws, rules)
+pub returns-in-None : goal.returns-in-None
+returns-in-None c = search (set-edge-laws, rules)

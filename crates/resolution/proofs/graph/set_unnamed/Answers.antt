@@ -3,9 +3,6 @@ use borrow.Author.Rules.{rules}
 use borrow.Author.Rules.{rules}
 use Rattle.resolution.proofs.graph.set_unnamed.Goals as goal
 
-pub same-requires : goal.same-requires
-same-requires c = search (unnamed-laws, rules)
-
 pub overflow_mul-at : goal.overflow_mul-at
 overflow_mul-at c = search (unnamed-laws, rules)
 
@@ -18,11 +15,11 @@ offset_bounds-rows-at c = search (unnamed-laws, rules)
 pub bounds-rows-at : goal.bounds-rows-at
 bounds-rows-at c = search (unnamed-laws, rules)
 
-pub returns-in-At : goal.returns-in-At
-returns-in-At c = search (unnamed-laws, rules)
+pub returns-in-Some : goal.returns-in-Some
+returns-in-Some c = search (unnamed-laws, rules)
 
-pub returns-in-Nothing : goal.returns-in-Nothing
-returns-in-Nothing c = search (unnamed-laws, rules)
+pub returns-in-None : goal.returns-in-None
+returns-in-None c = search (unnamed-laws, rules)
 
 pub returns-else-same : goal.returns-else-same
 returns-else-same c = search (unnamed-laws, rules)

@@ -2,12 +2,6 @@ use Rattle.resolution.proofs.hash.Laws.{hash-laws}
 use borrow.Author.Rules.{rules}
 use Rattle.resolution.proofs.hash.hash.Goals as goal
 
-pub head-s-requires : goal.head-s-requires
-head-s-requires c = search (hash-laws, rules)
-
-pub short_hash-requires : goal.short_hash-requires
-short_hash-requires c = search (hash-laws, rules)
-
 pub returns-then-s-lt16 : goal.returns-then-s-lt16
 returns-then-s-lt16 c = search (hash-laws, rules)
 

@@ -2,26 +2,14 @@ use Rattle.resolution.proofs.limits.Laws.{limits-laws}
 use borrow.Author.Rules.{rules}
 use Rattle.resolution.proofs.limits.order_limits.Goals as goal
 
-pub next-requires : goal.next-requires
-next-requires c = search (limits-laws, rules)
+pub overflow_add-span : goal.overflow_add-span
+overflow_add-span c = search (limits-laws, rules)
 
-pub part-b-requires : goal.part-b-requires
-part-b-requires c = search (limits-laws, rules)
-
-pub be16-n-requires : goal.be16-n-requires
-be16-n-requires c = search (limits-laws, rules)
+pub insert_list-requires : goal.insert_list-requires
+insert_list-requires c = search (limits-laws, rules)
 
 pub returns-then-table-n : goal.returns-then-table-n
 returns-then-table-n c = search (limits-laws, rules)
-
-pub is_list-requires : goal.is_list-requires
-is_list-requires c = search (limits-laws, rules)
-
-pub overflow_add-start : goal.overflow_add-start
-overflow_add-start c = search (limits-laws, rules)
-
-pub insert_list-count-requires : goal.insert_list-count-requires
-insert_list-count-requires c = search (limits-laws, rules)
 
 pub returns-then-is_list : goal.returns-then-is_list
 returns-then-is_list c = search (limits-laws, rules)
@@ -29,5 +17,5 @@ returns-then-is_list c = search (limits-laws, rules)
 pub returns-else-is_list : goal.returns-else-is_list
 returns-else-is_list c = search (limits-laws, rules)
 
-pub returns-in-Nothing : goal.returns-in-Nothing
-returns-in-Nothing c = search (limits-laws, rules)
+pub returns-in-None : goal.returns-in-None
+returns-in-None c = search (limits-laws, rules)

@@ -1,36 +1,16 @@
-use Rattle.resolution.proofs.modules.Laws.{used-laws}
-use borrow.Author.Rules.{rules}
+use Rattle.std.proofs.Common.{rules, tests, ◌∙◌}
+use Rattle.std.proofs.lemmas.Iterator.{YieldsList-from_slice}
+use Rattle.std.proofs.lemmas.Iterator.Search.{any_from_yields_List}
+use Rattle.records.specs.Name.{mem_name, name_of}
+use Rattle.records.specs.Record.{bodies}
+use Rattle.records.specs.Set.{block_at}
+use Rattle.records.specs.declared.record.Kind.TheVariants as Kind
+use Rattle.std.specs.Prelude.{map}
+use Rattle.resolution.proofs.modules.Laws.{used_any}
 use Rattle.resolution.proofs.modules.is_used.Goals as goal
 
-pub loop-k-init : goal.loop-k-init
-loop-k-init c = search (used-laws, rules)
-
-pub returns-then-order-k : goal.returns-then-order-k
-returns-then-order-k c = search (used-laws, rules)
-
-pub offset_bounds-order-k : goal.offset_bounds-order-k
-offset_bounds-order-k c = search (used-laws, rules)
-
-pub bounds-order-k : goal.bounds-order-k
-bounds-order-k c = search (used-laws, rules)
-
-pub block-requires : goal.block-requires
-block-requires c = search (used-laws, rules)
-
-pub has_named-requires : goal.has_named-requires
-has_named-requires c = search (used-laws, rules)
-
-pub returns-then-has_named : goal.returns-then-has_named
-returns-then-has_named c = search (used-laws, rules)
-
-pub overflow_add-k : goal.overflow_add-k
-overflow_add-k c = search (used-laws, rules)
-
-pub loop-k-smaller : goal.loop-k-smaller
-loop-k-smaller c = search (used-laws, rules)
-
-pub loop-k-preserved : goal.loop-k-preserved
-loop-k-preserved c = search (used-laws, rules)
-
 pub returns : goal.returns
-returns c = search (used-laws, rules)
+returns c =
+    any_from_yields_List (λ i. mem_name c.args.name.now (map name_of (bodies Kind.Uses (block_at c.args.sources.now.set.now c.args.sources.now.starts.now i)))) _ _ _ c.any.ensures.ran
+    (YieldsList-from_slice c.args.positions.now cc) (λ x b q k. search (rules, tests))
+    ∙ used_any c.args.sources.now.set.now c.args.sources.now.starts.now c.args.positions.now c.args.name.now

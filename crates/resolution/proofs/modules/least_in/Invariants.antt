@@ -5,8 +5,8 @@ use Rattle.records.specs.Order.{name_in}
 use Rattle.resolution.proofs.modules.Shared.{ScanAt}
 use Rattle.resolution.proofs.modules.least_in.Given as goal
 
-abbrev pub invariant-loop-start : goal.invariant-loop-start
-invariant-loop-start l = ScanAt l.set l.starts l.i (map (name_in l.b) (take l.count l.table)) l.source l.from l.initial.low l.c.at l.low
+abbrev pub invariant-loop-span : goal.invariant-loop-span
+invariant-loop-span l = ScanAt l.sources.set.now l.sources.starts.now l.i (map (name_in l.b) (take l.count l.table)) l.source l.from l.initial.low l.c.at l.low
 
-abbrev pub decreases-loop-start : goal.decreases-loop-start
-decreases-loop-start l = length l.source - l.c.at
+abbrev pub decreases-loop-span : goal.decreases-loop-span
+decreases-loop-span l = length l.source - l.c.at

@@ -15,8 +15,8 @@ has_package-requires c = search (owns-laws, rules)
 pub name-requires : goal.name-requires
 name-requires c = search (owns-laws, rules)
 
-pub find_in-requires : goal.find_in-requires
-find_in-requires c = search (owns-laws, rules)
+pub find-requires : goal.find-requires
+find-requires c = search (owns-laws, rules)
 
 pub is_at-requires : goal.is_at-requires
 is_at-requires c = search (owns-laws, rules)

@@ -1,9 +1,5 @@
-use Prim.Native.Nat.{◌-◌}
 use Rattle.resolution.proofs.providers.Laws.{ProvideAt}
 use Rattle.resolution.proofs.providers.provide.Given as goal
 
 abbrev pub invariant-loop-i : goal.invariant-loop-i
-invariant-loop-i l = ProvideAt l.set l.starts l.phase l.from l.table l.services l.initial.order l.initial.line l.to l.i l.order l.line
-
-abbrev pub decreases-loop-i : goal.decreases-loop-i
-decreases-loop-i l = l.phase.count - l.i
+invariant-loop-i l = ProvideAt l.sources.set.now l.sources.starts.now l.sources.phase l.from l.table l.services l.initial.resolver.order l.initial.resolver.queue l.to l.i l.resolver.order l.resolver.queue

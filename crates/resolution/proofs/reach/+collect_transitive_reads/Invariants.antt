@@ -7,8 +7,8 @@ use Rattle.resolution.proofs.reach.+collect_transitive_reads.Given as goal
 abbrev pub decreases-collect_transitive_reads : goal.decreases-collect_transitive_reads
 decreases-collect_transitive_reads l = unmarked l.marks.words
 
-abbrev pub invariant-loop-k : goal.invariant-loop-k
-invariant-loop-k l = CollectAt l.g l.m l.initial.out.words l.out.words l.k
+abbrev pub invariant-loop-j : goal.invariant-loop-j
+invariant-loop-j l = CollectAt l.g l.m l.initial.out.words l.out.words l.k
 
-abbrev pub decreases-loop-k : goal.decreases-loop-k
-decreases-loop-k l = 512 - l.k
+abbrev pub decreases-loop-j : goal.decreases-loop-j
+decreases-loop-j l = 512 - l.k

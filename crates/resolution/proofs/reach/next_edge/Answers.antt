@@ -1,22 +1,11 @@
 use borrow.Author.Rules.{rules}
 use Rattle.resolution.proofs.reach.Next.{next-edge-laws}
-use borrow.Author.Rules.{rules}
 use Rattle.resolution.proofs.reach.next_edge.Goals as goal
+use Rattle.resolution.proofs.reach.next_edge.Goals.{else-m-lt512-via-then-m-lt512+else-any_lacking, else-m-lt512-via-else-m-lt512}
 
-pub any_lacking-requires : goal.any_lacking-requires
-any_lacking-requires c = search (next-edge-laws, rules)
-
-pub lacking-requires : goal.lacking-requires
-lacking-requires c = search (next-edge-laws, rules)
-
-pub next_in-requires : goal.next_in-requires
-next_in-requires c = search (next-edge-laws, rules)
-
-pub returns-then-any_lacking : goal.returns-then-any_lacking
-returns-then-any_lacking c = search (next-edge-laws, rules)
-
-pub returns-else-any_lacking : goal.returns-else-any_lacking
-returns-else-any_lacking c = search (next-edge-laws, rules)
-
-pub returns-else-m-lt512 : goal.returns-else-m-lt512
-returns-else-m-lt512 c = search (next-edge-laws, rules)
+pub returns : goal.returns
+returns c =
+    elim c.else-m-lt512.branch [
+      | else-m-lt512-via-then-m-lt512+else-any_lacking w ↦ search (next-edge-laws, rules)
+      | else-m-lt512-via-else-m-lt512 w ↦ search (next-edge-laws, rules)
+    ]

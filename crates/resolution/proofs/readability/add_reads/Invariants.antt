@@ -1,11 +1,11 @@
 use Prim.Native.Nat.{◌-◌}
 use lib.ListN.{length}
-use Rattle.resolution.specs.Readability.{table_names}
+use Rattle.resolution.specs.ModuleTable.{names_in}
 use Rattle.resolution.proofs.readability.Added.{AddAt}
 use Rattle.resolution.proofs.readability.add_reads.Given as goal
 
-abbrev pub invariant-loop-start : goal.invariant-loop-start
-invariant-loop-start l = AddAt (table_names l.set l.starts l.count) l.members.words l.request l.initial.rows l.rows l.c.at
+abbrev pub invariant-loop-span : goal.invariant-loop-span
+invariant-loop-span l = AddAt (names_in l.table) l.members.words l.request l.initial.rows l.rows l.c.at
 
-abbrev pub decreases-loop-start : goal.decreases-loop-start
-decreases-loop-start l = length l.request - l.c.at
+abbrev pub decreases-loop-span : goal.decreases-loop-span
+decreases-loop-span l = length l.request - l.c.at

@@ -6,8 +6,8 @@ use Rattle.resolution.proofs.readability.set_read.Goals as goal
 pub set_edge-requires : goal.set_edge-requires
 set_edge-requires c = search (set-read-laws, rules)
 
-pub returns-in-At : goal.returns-in-At
-returns-in-At c = search (set-read-laws, rules)
+pub returns-in-Some : goal.returns-in-Some
+returns-in-Some c = search (set-read-laws, rules)
 
-pub returns-in-Nothing : goal.returns-in-Nothing
-returns-in-Nothing c = search (set-read-laws, rules)
+pub returns-in-None : goal.returns-in-None
+returns-in-None c = search (set-read-laws, rules)

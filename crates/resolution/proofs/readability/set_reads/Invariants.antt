@@ -2,8 +2,8 @@ use Prim.Native.Nat.{◌-◌}
 use Rattle.resolution.proofs.readability.Rows.{RowsAt}
 use Rattle.resolution.proofs.readability.set_reads.Given as goal
 
-abbrev pub invariant-loop-k : goal.invariant-loop-k
-invariant-loop-k l = RowsAt l.set l.starts l.count l.members.words l.graph l.rows l.k
+abbrev pub invariant-loop-p : goal.invariant-loop-p
+invariant-loop-p l = RowsAt l.table.set.now l.table.starts.now l.table.count l.members.words l.graph l.rows l.k
 
-abbrev pub decreases-loop-k : goal.decreases-loop-k
-decreases-loop-k l = 512 - l.k
+abbrev pub decreases-loop-p : goal.decreases-loop-p
+decreases-loop-p l = 512 - l.k

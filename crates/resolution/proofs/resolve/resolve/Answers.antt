@@ -1,28 +1,24 @@
-use Rattle.resolution.proofs.resolve.Laws.{resolve-laws}
-use borrow.Author.Rules.{rules}
-use borrow.Author.Rules.{rules}
+use Rattle.std.proofs.Common.{rules}
+use Rattle.std.proofs.lemmas.Result.{err_from_is_err_and}
+use Rattle.resolution.proofs.resolve.Laws.{resolve-laws, resolve-refused, resolve-taken}
 use Rattle.resolution.proofs.resolve.resolve.Goals as goal
 
-pub slice_bounds-check_with-end : goal.slice_bounds-check_with-end
-slice_bounds-check_with-end c = search (resolve-laws, rules)
+pub check_with-requires : goal.check_with-requires
+check_with-requires c = search (resolve-laws, rules)
 
-pub check_with-checked-requires : goal.check_with-checked-requires
-check_with-checked-requires c = search (resolve-laws, rules)
+pub returns-in_err-checked : goal.returns-in_err-checked
+returns-in_err-checked c =
+    let p = err_from_is_err_and c.from_residual.result c.from_residual.ensures.1 in
+    resolve-refused _ _ _ _ _ c.in_err-checked.ensures.value (rw (p.1, p.2))
 
 pub returns-then-words-lt-WORDS : goal.returns-then-words-lt-WORDS
-returns-then-words-lt-WORDS c = search (resolve-laws, rules)
+returns-then-words-lt-WORDS c = search (resolve-laws, c.in_ok-checked.ensures.value, rules)
 
-pub slice_bounds-resolve_checked-end : goal.slice_bounds-resolve_checked-end
-slice_bounds-resolve_checked-end c = search (resolve-laws, rules)
-
-pub slice_bounds-resolve_checked-end-in-Modules : goal.slice_bounds-resolve_checked-end-in-Modules
-slice_bounds-resolve_checked-end-in-Modules c = search (resolve-laws, rules)
+pub new-table-requires : goal.new-table-requires
+new-table-requires c = record { taken = search (resolve-laws, c.in_ok-checked.ensures.value, rules); indexed_set = c.in_ok-checked.ensures.indexed_set }
 
 pub resolve_checked-requires : goal.resolve_checked-requires
-resolve_checked-requires c = record { set_value = search (resolve-laws, rules); lookup = search (resolve-laws, rules); request_len_bound = search (resolve-laws, rules); word_count_in_bounds = search rules }
+resolve_checked-requires c = record { request_len_bound = search (resolve-laws, c.in_ok-checked.ensures.value, rules); word_count_in_bounds = search rules }
 
-pub returns-in-Refused : goal.returns-in-Refused
-returns-in-Refused c = search (resolve-laws, rules)
-
-pub returns-else-words-lt-WORDS : goal.returns-else-words-lt-WORDS
-returns-else-words-lt-WORDS c = search (resolve-laws, rules)
+pub returns : goal.returns
+returns c = search (resolve-taken, c.in_ok-checked.ensures.value, rules)

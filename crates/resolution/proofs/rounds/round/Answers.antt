@@ -2,8 +2,8 @@ use Rattle.resolution.proofs.rounds.Laws.{round-laws}
 use borrow.Author.Rules.{rules}
 use Rattle.resolution.proofs.rounds.round.Goals as goal
 
-pub bind-next-requires : goal.bind-next-requires
-bind-next-requires c = search (round-laws, rules)
+pub bind-requires : goal.bind-requires
+bind-requires c = search (round-laws, rules)
 
 pub run-requires : goal.run-requires
 run-requires c = search (round-laws, rules)

@@ -4,8 +4,8 @@ use Rattle.resolution.specs.Resolver.{line_at, is_done}
 use Rattle.resolution.proofs.rounds.Laws.{RoundsAt}
 use Rattle.resolution.proofs.rounds.rounds.Given as goal
 
-abbrev pub invariant-loop-phase : goal.invariant-loop-phase
-invariant-loop-phase l = RoundsAt l.set l.request l.starts l.old l.phase l.index l.names l.needed l.initial.order l.initial.packages l.initial.table (line_at l.initial.order l.initial.line) l.order l.packages l.table l.bound l.line
+abbrev pub invariant-loop-from : goal.invariant-loop-from
+invariant-loop-from l = RoundsAt l.sources.set.now l.sources.request.now l.sources.starts.now l.sources.old.now l.sources.phase l.sources.index.now l.sources.names.now l.sources.needed.now l.initial.resolver.order l.initial.packages l.initial.table (line_at l.initial.resolver.order l.initial.resolver.queue) l.resolver.order l.packages l.table l.bound l.resolver.queue
 
-abbrev pub decreases-loop-phase : goal.decreases-loop-phase
-decreases-loop-phase l = (513 - l.line.head) + one (is_done l.line.halt)
+abbrev pub decreases-loop-from : goal.decreases-loop-from
+decreases-loop-from l = (513 - l.resolver.queue.head) + one (is_done l.resolver.queue.halt)

@@ -3,8 +3,5 @@ use borrow.Author.Rules.{rules}
 use borrow.Author.Rules.{rules}
 use Rattle.resolution.proofs.word.word_with.Goals as goal
 
-pub overflow_shl-result : goal.overflow_shl-result
-overflow_shl-result c = search (word-with-laws, rules)
-
 pub returns : goal.returns
 returns c = search (word-with-laws, rules)

@@ -1,0 +1,9 @@
+use Rattle.std.proofs.Common.{rules, ◌≡◌, ℕ, ◌<◌, get_or}
+use Rattle.std.proofs.Common.{bit_and}
+use Rattle.resolution.proofs.row.Laws.{intersection-is}
+use Rattle.resolution.proofs.row.Row.intersection.Goals as goal
+
+pub returns : goal.returns
+returns c =
+    let e : (k : ℕ) → k < 8 → get_or c.zip_words.result.words k 0 ≡ bit_and (get_or c.args.self.words k 0) (get_or c.args.other.words k 0) = λ k l. search (rules, c.zip_words.ensures k l) in
+    intersection-is c.args.self.words c.args.other.words c.zip_words.result.words (search rules) (search rules) e

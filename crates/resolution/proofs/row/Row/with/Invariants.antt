@@ -1,0 +1,5 @@
+use Rattle.resolution.proofs.row.Laws.{WithAt}
+use Rattle.resolution.proofs.row.Row.with.Given as goal
+
+abbrev pub invariant-loop-q : goal.invariant-loop-q
+invariant-loop-q l = WithAt l.fn.self.words l.k l.words l.q
