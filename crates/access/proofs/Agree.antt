@@ -10,12 +10,10 @@ use Rattle.records.specs.Descriptor.{Descriptor}
 use Rattle.records.specs.Finder.{find_module}
 use Rattle.records.specs.Name.{java_base, all_unnamed, mem_name}
 use Rattle.records.specs.Request.{Request, request_of, check_inputs}
-use Rattle.records.specs.Set.{modules, check_set}
+use Rattle.records.specs.Set.{modules, check_set, count_of}
 use Rattle.records.specs.declared.error.ModuleError.TheVariants.{OutputTooShort}
-use Rattle.records.specs.declared.finder.Found.{Found}
-use Rattle.records.specs.declared.finder.Found.TheVariants.{At, Nothing}
-use Rattle.records.specs.declared.set.SetAnswer.{SetAnswer}
-use Rattle.records.specs.declared.set.SetAnswer.TheVariants as Set
+use Rattle.records.specs.Finder.{Found}
+use Rattle.records.specs.Set.{CountAnswer}
 use Rattle.resolution.specs.Configuration.{word_count, pick_answer, with_words, member_bit, edge_bit, unnamed_bit}
 use Rattle.resolution.specs.Lists.{Name}
 use Rattle.resolution.specs.Observed.{has_member, has_edge, has_unnamed_edge}
@@ -28,30 +26,28 @@ use Rattle.access.specs.Access.{passes, is_member, edge_to, is_reader, reads_nam
 use Rattle.access.specs.Agree.{Agree, SameVisibleBits, SameAnswers}
 use Rattle.access.specs.CanRead.{read_answered, can_read}
 use Rattle.access.specs.Members.{verdict_by}
-use Rattle.access.specs.ReadGraph.{row_length, reads_at, reads_unnamed_at, Leads, readers_answered, readers_of, transitive_reads, LeadsToUnnamed, LedFrom}
-use Rattle.access.specs.declared.access.AccessAnswer.TheVariants.{Verdict}
-use Rattle.access.specs.declared.access.ReadAnswer.TheVariants.{Reads}
+use Rattle.access.specs.ReadGraph.{row_length, reads_at, reads_unnamed_at, Leads, GraphOutcome, readers_answered, readers_of, transitive_reads, LeadsToUnnamed, LedFrom}
 use Rattle.access.specs.declared.graph.GraphAnswer.{GraphAnswer}
-use Rattle.access.specs.declared.graph.GraphOutcome.TheVariants.{Answered}
 use Rattle.access.proofs.Visible.{verdict-is}
 use Rattle.access.proofs.graph.Answers.{leads-over, one-over}
 use Rattle.access.proofs.graph.Led.{transitive_led, transitive_only}
+use Rattle.std.specs.Prelude.{Some, None, Ok, Err}
 
 -- what is found passes both of two tests that are the same, or neither
 passes_over : (p q : ℕ → Bool) → ((i : ℕ) → p i ≡ q i) → (f : Found) → passes p f ≡ passes q f
 unfolding passes
-passes_over p q h (At i) = h i
-passes_over p q h Nothing = refl
+passes_over p q h (Some i) = h i
+passes_over p q h None = refl
 
 module _ (s : List ℕ) (c₁ c₂ : List ℕ) (h : Agree s c₁ c₂) where
   agree-back : Agree s c₂ c₁
   agree-back = record { enough = sym h.enough; members = λ i. sym (h.members i); edges = λ i j. sym (h.edges i j); unnamed = λ i. sym (h.unnamed i) }
 
   -- the words are enough for both, or for neither
-  same_taken : (a : SetAnswer) → with_words c₁ a ≡ with_words c₂ a
+  same_taken : (a : CountAnswer) → with_words c₁ a ≡ with_words c₂ a
   unfolding with_words
-  same_taken (Set.Refused e) = refl
-  same_taken (Set.Modules n) = ap (λ (b : Bool). pick_answer b (Set.Refused (OutputTooShort word_count)) (Set.Modules n)) h.enough
+  same_taken (Err e) = refl
+  same_taken (Ok n) = ap (λ (b : Bool). pick_answer b (Err (OutputTooShort word_count)) (Ok n)) h.enough
 
   -- ---- what is said of names
 
@@ -85,41 +81,41 @@ module _ (s : List ℕ) (c₁ c₂ : List ℕ) (h : Agree s c₁ c₂) where
       ∙ ap₂ (λ (m : Option Descriptor) (r : Bool). verdict_by reflection rq m (r || same_bytes target java_base) asker target p) (same_module target) (same_reads asker target)
       ∙ sym (verdict-is reflection s rq c₂ asker target p)
 
-  same-answered : (reflection : Bool) (q : List ℕ) (asker target p : Name) (a : SetAnswer)
+  same-answered : (reflection : Bool) (q : List ℕ) (asker target p : Name) (a : CountAnswer)
       → answered reflection s q c₁ asker target p a ≡ answered reflection s q c₂ asker target p a
   unfolding answered
-  same-answered reflection q asker target p (Set.Refused e) = refl
-  same-answered reflection q asker target p (Set.Modules n) = ap Verdict (same-verdict reflection (request_of q) asker target p)
+  same-answered reflection q asker target p (Err e) = refl
+  same-answered reflection q asker target p (Ok n) = ap Ok (same-verdict reflection (request_of q) asker target p)
 
   same-access : (reflection : Bool) (q : List ℕ) (asker target p : Name)
       → check_access reflection s q c₁ asker target p ≡ check_access reflection s q c₂ asker target p
   unfolding check_access
   same-access reflection q asker target p =
-      same-answered reflection q asker target p (with_words c₁ (check_inputs s q).answer)
-      ∙ ap (answered reflection s q c₂ asker target p) (same_taken (check_inputs s q).answer)
+      same-answered reflection q asker target p (with_words c₁ (count_of (check_inputs s q)))
+      ∙ ap (answered reflection s q c₂ asker target p) (same_taken (count_of (check_inputs s q)))
 
   -- ---- whether a module can read another
 
-  same-read-answered : (x y : Name) (a : SetAnswer) → read_answered s c₁ x y a ≡ read_answered s c₂ x y a
+  same-read-answered : (x y : Name) (a : CountAnswer) → read_answered s c₁ x y a ≡ read_answered s c₂ x y a
   unfolding read_answered
-  same-read-answered x y (Set.Refused e) = refl
-  same-read-answered x y (Set.Modules n) = ap (λ (b : Bool). Reads (same_bytes x y || (same_bytes y java_base || b))) (same_reads x y)
+  same-read-answered x y (Err e) = refl
+  same-read-answered x y (Ok n) = ap (λ (b : Bool). Ok (same_bytes x y || (same_bytes y java_base || b))) (same_reads x y)
 
   same-can-read : (x y : Name) → can_read s c₁ x y ≡ can_read s c₂ x y
   unfolding can_read
-  same-can-read x y = same-read-answered x y (with_words c₁ (check_set s).answer) ∙ ap (read_answered s c₂ x y) (same_taken (check_set s).answer)
+  same-can-read x y = same-read-answered x y (with_words c₁ (count_of (check_set s))) ∙ ap (read_answered s c₂ x y) (same_taken (count_of (check_set s)))
 
   -- ---- the members that read a name
 
-  same-readers-answered : (y : Name) (a : SetAnswer) → readers_answered s c₁ y a ≡ readers_answered s c₂ y a
+  same-readers-answered : (y : Name) (a : CountAnswer) → readers_answered s c₁ y a ≡ readers_answered s c₂ y a
   unfolding readers_answered
-  same-readers-answered y (Set.Refused e) = refl
-  same-readers-answered y (Set.Modules n) =
-      ap (λ (l : List ℕ). record { outcome = Answered; row = l; unnamed = false }) (words-over (is_reader s c₁ y) (is_reader s c₂ y) (same-reader y) row_length)
+  same-readers-answered y (Err e) = refl
+  same-readers-answered y (Ok n) =
+      ap {B = GraphOutcome} (λ (l : List ℕ). Ok (record { row = l; unnamed = false })) (words-over (is_reader s c₁ y) (is_reader s c₂ y) (same-reader y) row_length)
 
   same-readers : (y : Name) → readers_of s c₁ y ≡ readers_of s c₂ y
   unfolding readers_of
-  same-readers y = same-readers-answered y (with_words c₁ (check_set s).answer) ∙ ap (readers_answered s c₂ y) (same_taken (check_set s).answer)
+  same-readers y = same-readers-answered y (with_words c₁ (count_of (check_set s))) ∙ ap (readers_answered s c₂ y) (same_taken (count_of (check_set s)))
 
   -- ---- the owner of a package
 
@@ -127,14 +123,14 @@ module _ (s : List ℕ) (c₁ c₂ : List ℕ) (h : Agree s c₁ c₂) where
   unfolding owns_at
   same-owns p k = ap (λ (b : Bool). b && mem_name p (module_at (modules s) k).packages) (h.members k)
 
-  same-owner_in : (p : Name) (a : SetAnswer) → owner_in s c₁ p a ≡ owner_in s c₂ p a
+  same-owner_in : (p : Name) (a : CountAnswer) → owner_in s c₁ p a ≡ owner_in s c₂ p a
   unfolding owner_in
-  same-owner_in p (Set.Refused e) = refl
-  same-owner_in p (Set.Modules n) = lowest-over (owns_at (modules s) c₁ p) (owns_at (modules s) c₂ p) (same-owns p) 0 n
+  same-owner_in p (Err e) = refl
+  same-owner_in p (Ok n) = lowest-over (owns_at (modules s) c₁ p) (owns_at (modules s) c₂ p) (same-owns p) 0 n
 
   same-owner : (p : Name) → find_module_for_package s c₁ p ≡ find_module_for_package s c₂ p
   unfolding find_module_for_package
-  same-owner p = same-owner_in p (with_words c₁ (check_set s).answer) ∙ ap (owner_in s c₂ p) (same_taken (check_set s).answer)
+  same-owner p = same-owner_in p (with_words c₁ (count_of (check_set s))) ∙ ap (owner_in s c₂ p) (same_taken (count_of (check_set s)))
 
   -- ---- what read edges lead to
 
@@ -158,7 +154,6 @@ module _ (s : List ℕ) (c₁ c₂ : List ℕ) (h : Agree s c₁ c₂) where
 
   same-led : (x : Name) (r : GraphAnswer) → LedFrom s c₁ x r → LedFrom s c₂ x r
   same-led x r l = record {
-    outcome = l.outcome;
     row_words = l.row_words;
     row_sound = λ k e. let f = l.row_sound k e in (f.0, f.1, leads s c₁ c₂ h f.0 k f.2);
     row_complete = λ i k e f. l.row_complete i k e (leads s c₂ c₁ back i k f);
@@ -170,8 +165,8 @@ module _ (s : List ℕ) (c₁ c₂ : List ℕ) (h : Agree s c₁ c₂) where
   same_transitive x =
       let t = transitive_led s c₁ x in
       transitive_only s c₂ x (transitive_reads s c₁ x) (record {
-        refused = λ e k. t.refused e (same_taken s c₁ c₂ h (check_set s).answer ∙ k);
-        answered = λ n k. same-led x (transitive_reads s c₁ x) (t.answered n (same_taken s c₁ c₂ h (check_set s).answer ∙ k));
+        refused = λ e k. t.refused e (same_taken s c₁ c₂ h (count_of (check_set s)) ∙ k);
+        answered = λ n k. let a = t.answered n (same_taken s c₁ c₂ h (count_of (check_set s)) ∙ k) in (a.0, a.1, same-led x a.0 a.2);
       })
 
 -- ---- the three tests decide every answer

@@ -20,10 +20,10 @@ use Rattle.resolution.proofs.Sets.{unaltered_over}
 use Rattle.resolution.proofs.Wider as Wider
 use Rattle.access.specs.Access.{reads_name, resolved_module, is_reflection, grants_of, verdict, check_access}
 use Rattle.access.specs.Demand3.{configuration, Resolved, Owns, Grows, KeepsAll, Demand3}
-use Rattle.access.specs.declared.access.AccessAnswer.TheVariants.{Verdict}
 use Rattle.access.specs.declared.access.AccessCheckResult.TheVariants.{Allowed}
 use Rattle.access.proofs.Names.{Done, accepted-out, configuration_enough, done-accepted, done-named}
 use Rattle.access.proofs.Verdicts.{verdict-over, answer-is, verdict-out}
+use Rattle.std.specs.Prelude.{Ok}
 
 -- ---- the first half
 
@@ -106,11 +106,11 @@ module _ (s₁ q₁ ws₁ s₂ q₂ ws₂ : List ℕ) (d₁ : Done s₁ q₁ ws�
       = kept.owners p n (a.1 ∙ ap some h.2) ∙ ap some (sym z) in
       (i, o₂.is_at_lem i (index-visible n (modules s₂) y) b, z)
 
-  allowed_kept : (reflection : Bool) (asker target p : Name) → check_access reflection s₁ q₁ (configuration s₁ q₁ ws₁) asker target p ≡ Verdict Allowed
-      → check_access reflection s₂ q₂ (configuration s₂ q₂ ws₂) asker target p ≡ Verdict Allowed
+  allowed_kept : (reflection : Bool) (asker target p : Name) → check_access reflection s₁ q₁ (configuration s₁ q₁ ws₁) asker target p ≡ Ok Allowed
+      → check_access reflection s₂ q₂ (configuration s₂ q₂ ws₂) asker target p ≡ Ok Allowed
   allowed_kept reflection asker target p h =
       answer-is reflection s₂ q₂ d₂.count d₂.taken (configuration s₂ q₂ ws₂) (configuration_enough s₂ q₂ ws₂ d₂) asker target p
-      ∙ ap Verdict (verdict-over reflection s₁ (request_of q₁) (configuration s₁ q₁ ws₁) s₂ (request_of q₂) (configuration s₂ q₂ ws₂)
+      ∙ ap Ok (verdict-over reflection s₁ (request_of q₁) (configuration s₁ q₁ ws₁) s₂ (request_of q₂) (configuration s₂ q₂ ws₂)
       reads_kept found-kept (grants-kept reflection) asker target p
       (verdict-out (verdict reflection s₁ (request_of q₁) (configuration s₁ q₁ ws₁) asker target p)
       (sym (answer-is reflection s₁ q₁ d₁.count d₁.taken (configuration s₁ q₁ ws₁) (configuration_enough s₁ q₁ ws₁ d₁) asker target p) ∙ h)))

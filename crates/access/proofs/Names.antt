@@ -11,11 +11,9 @@ use Rattle.records.specs.Descriptor.{Descriptor}
 use Rattle.records.specs.Finder.{find_module}
 use Rattle.records.specs.Name.{all_unnamed}
 use Rattle.records.specs.Request.{Request, request_of, check_inputs}
-use Rattle.records.specs.Set.{modules}
-use Rattle.records.specs.declared.finder.Found.{Found}
-use Rattle.records.specs.declared.finder.Found.TheVariants.{At, Nothing}
-use Rattle.records.specs.declared.set.SetAnswer.{SetAnswer}
-use Rattle.records.specs.declared.set.SetAnswer.TheVariants as Set
+use Rattle.records.specs.Set.{modules, count_of, starts_in}
+use Rattle.records.specs.Finder.{Found}
+use Rattle.records.specs.Set.{CountAnswer}
 use Rattle.records.proofs.Logic.{clash, by, true≠false}
 use Rattle.records.proofs.bytes.Laws.{same-eq}
 use Rattle.records.proofs.set.Blocks.{GoodSet, good-set}
@@ -29,16 +27,16 @@ use Rattle.resolution.specs.Resolution.{find, has_module, Refusal, State}
 use Rattle.resolution.specs.Resolution as Resolution
 use Rattle.resolution.specs.Resolve.{member_at, edge_at, unnamed_at, configuration_of, ResolveResult, refused, told, answered, resolve}
 use Rattle.resolution.specs.Configuration.{word_count, with_words}
-use Rattle.resolution.specs.declared.resolve.Outcome.TheVariants as Outcome
 use Rattle.resolution.proofs.Find.{find-mem, has-find, has-names, has_some}
 use Rattle.resolution.proofs.ConfigurationWords.{with-taken}
 use Rattle.resolution.proofs.PackageOwner.{words_are_told, long_enough}
 use Rattle.resolution.proofs.Observed.{member_is, edge-is, unnamed-is}
 use Rattle.resolution.proofs.Positions.{Located, find_none, located_visible}
 use Rattle.resolution.proofs.Sets.{set-length, set-accepted, set_located, set-not_located}
-use Rattle.resolution.proofs.resolve.Laws.{resolve-set}
+use Rattle.records.proofs.request.Taken.{inputs-taken}
 use Rattle.access.specs.Access.{passes, is_member, edge_to, is_reader, reads_name, resolved_module}
 use Rattle.access.specs.Demand3.{IsAccepted, configuration}
+use Rattle.std.specs.Prelude.{Some, None, Ok, Err}
 
 -- ---- an accepted pair
 
@@ -46,28 +44,28 @@ use Rattle.access.specs.Demand3.{IsAccepted, configuration}
 pub record Done (s q ws : List ℕ) : Type 0 where
   pub count : ℕ
   pub state : State
-  pub taken : (check_inputs s q).answer ≡ Set.Modules count
+  pub taken : count_of (check_inputs s q) ≡ Ok count
   pub enough : word_count ≤ length ws
   pub finished : Resolution.resolve (modules s) (request_of q) ≡ done state
 
 module _ (s q ws : List ℕ) where
-  told-out : (n : ℕ) (r : Result State Refusal) → with_words ws (check_inputs s q).answer ≡ Set.Modules n → Resolution.resolve (modules s) (request_of q) ≡ r
-      → (told s q ws r).outcome ≡ Outcome.Accepted → Done s q ws
+  told-out : (n : ℕ) (r : Result State Refusal) → with_words ws (count_of (check_inputs s q)) ≡ Ok n → Resolution.resolve (modules s) (request_of q) ≡ r
+      → (told s q ws r).outcome ≡ Ok tt → Done s q ws
   unfolding told refused
   told-out n (failed x) c e h = clash (cc)
-  told-out n (done st) c e h = let t = with-taken ws (check_inputs s q).answer n c in record { count = n; state = st; taken = t.0; enough = t.1; finished = e }
+  told-out n (done st) c e h = let t = with-taken ws (count_of (check_inputs s q)) n c in record { count = n; state = st; taken = t.0; enough = t.1; finished = e }
 
-  answered-out : (a : SetAnswer) → with_words ws (check_inputs s q).answer ≡ a → (answered s q ws a).outcome ≡ Outcome.Accepted → Done s q ws
+  answered-out : (a : CountAnswer) → with_words ws (count_of (check_inputs s q)) ≡ a → (answered s q ws a).outcome ≡ Ok tt → Done s q ws
   unfolding answered refused
-  answered-out (Set.Refused x) c h = clash (cc)
-  answered-out (Set.Modules n) c h = told-out n (Resolution.resolve (modules s) (request_of q)) c refl h
+  answered-out (Err x) c h = clash (cc)
+  answered-out (Ok n) c h = told-out n (Resolution.resolve (modules s) (request_of q)) c refl h
 
   pub accepted-out : IsAccepted s q ws → Done s q ws
   unfolding resolve
-  accepted-out h = answered-out (with_words ws (check_inputs s q).answer) refl h
+  accepted-out h = answered-out (with_words ws (count_of (check_inputs s q))) refl h
 
   module _ (d : Done s q ws) where
-    done-told : resolve s q ws ≡ record { outcome = Outcome.Accepted; words = configuration_of (modules s) (request_of q) d.state.resolved ++ drop word_count ws }
+    done-told : resolve s q ws ≡ record { outcome = (Ok tt); words = configuration_of (modules s) (request_of q) d.state.resolved ++ drop word_count ws }
     done-told = words_are_told s q ws d.count d.state d.taken d.enough d.finished
 
     pub accepted_in : IsAccepted s q ws
@@ -136,21 +134,21 @@ module _ (s : List ℕ) (n : ℕ) (t : List ℕ) (g : GoodSet s n t) (rq : Reque
   members-named x = turned (find_module s x) refl
     where
       turned : (f : Found) → find_module s x ≡ f → passes (has_member S c) f ≡ has_module R x
-      turned (At i) e =
+      turned (Some i) e =
           let o = set_located s x i e in
           member_is S long rq R rest i ∙ rw (located_visible x S i o) (ap (has_module R) (name-at x i o))
-      turned Nothing e = sym (not_in x (set-not_located s x e).0)
+      turned None e = sym (not_in x (set-not_located s x e).0)
 
   -- an edge, where the source is a module of the set
   edges-named : (x y : Name) (i : ℕ) → Located x S i → (f : Found) → find_module s y ≡ f
       → passes (has_edge S c i) f || (same_bytes y all_unnamed && has_unnamed_edge S c i) ≡ reads R rq x y
   unfolding passes edge_at unnamed_at
-  edges-named x y i o (At j) e =
+  edges-named x y i o (Some j) e =
       let k = set_located s y j e in
       let u : has_edge S c i j ≡ reads R rq x y
       = edge-is S long rq R rest i j ∙ rw (located_visible x S i o, located_visible y S j k, name-at x i o, name-at y j k) in
       rw (named y k.observable, u) (or-false (reads R rq x y))
-  edges-named x y i o Nothing e = by (same_bytes y all_unnamed)
+  edges-named x y i o None e = by (same_bytes y all_unnamed)
       (λ k.
       let u : has_unnamed_edge S c i ≡ reads R rq x y
       = unnamed-is S long rq R rest i ∙ rw (located_visible x S i o, name-at x i o, same-eq y all_unnamed k) in
@@ -167,11 +165,11 @@ module _ (s : List ℕ) (n : ℕ) (t : List ℕ) (g : GoodSet s n t) (rq : Reque
   reads-named x y = turned (find_module s x) refl
     where
       turned : (f : Found) → find_module s x ≡ f → passes (is_reader s c y) f ≡ reads R rq x y
-      turned (At i) e =
+      turned (Some i) e =
           let o = set_located s x i e in
           let m : has_member S c i ≡ has_module R x = member_is S long rq R rest i ∙ rw (located_visible x S i o) (ap (has_module R) (name-at x i o)) in
           rw m (ap (λ (b : Bool). has_module R x && b) (edges-named x y i o (find_module s y) refl) ∙ source-counts x y (has_module R x) refl)
-      turned Nothing e = sym (reads-source R rq x y (not_in x (set-not_located s x e).0))
+      turned None e = sym (reads-source R rq x y (not_in x (set-not_located s x e).0))
 
   module_named : (x : Name) → resolved_module s c x ≡ find x R
   unfolding resolved_module
@@ -185,12 +183,12 @@ module _ (s : List ℕ) (n : ℕ) (t : List ℕ) (g : GoodSet s n t) (rq : Reque
 -- ---- over bytes
 
 module _ (s q ws : List ℕ) (d : Done s q ws) where
-  pub done-good : GoodSet s d.count (check_inputs s q).starts
-  done-good = good-set s d.count (check_inputs s q).starts (resolve-set s q (check_inputs s q) refl d.count d.taken)
+  pub done-good : GoodSet s d.count (starts_in (check_inputs s q))
+  done-good = good-set s d.count (starts_in (check_inputs s q)) (inputs-taken s q d.count (check_inputs s q) refl d.taken)
 
   pub done-accepted : Accepted (modules s) (request_of q) d.state.resolved
-  done-accepted = set-accepted s d.count (check_inputs s q).starts done-good (request_of q) d.state d.finished
+  done-accepted = set-accepted s d.count (starts_in (check_inputs s q)) done-good (request_of q) d.state d.finished
 
   pub done-named : ByNames s (request_of q) (configuration s q ws) d.state.resolved
   done-named = subst (λ (c : List ℕ). ByNames s (request_of q) c d.state.resolved) (sym (configuration-is s q ws d))
-      (by_names s d.count (check_inputs s q).starts done-good (request_of q) d.state.resolved done-accepted (drop word_count ws))
+      (by_names s d.count (starts_in (check_inputs s q)) done-good (request_of q) d.state.resolved done-accepted (drop word_count ws))

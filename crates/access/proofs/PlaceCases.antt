@@ -7,7 +7,7 @@ use Rattle.records.specs.Set.{enter_at, places_at, blocks}
 use Rattle.resolution.specs.Cases.{root_a}
 use Rattle.resolution.specs.Lists.{Name, Mem}
 use Rattle.resolution.specs.PackageOwner.{owns_at, lowest, owner_in, find_module_for_package}
-use Rattle.resolution.specs.declared.owner.Owner.{Owner}
+use Rattle.resolution.specs.PackageOwner.{Owner}
 use Rattle.access.specs.ReadGraph.{readers_answered, readers_of}
 use Rattle.access.specs.PlaceCases.{q, hidden_set, hidden_request, service_set, bound_set, shared_set, own_set, front_set, hidden_alone, PlaceCases}
 use Rattle.access.proofs.Cases.{ask}

@@ -10,8 +10,7 @@ use Rattle.records.specs.Name.{all_unnamed, mem_name}
 use Rattle.records.specs.Descriptor.{Descriptor, descriptor_of}
 use Rattle.records.specs.Set.{modules}
 use Rattle.records.specs.Finder.{find_name, find_module, is_first}
-use Rattle.records.specs.declared.finder.Found.{Found}
-use Rattle.records.specs.declared.finder.Found.TheVariants.{At, Nothing}
+use Rattle.records.specs.Finder.{Found}
 use Rattle.records.proofs.bytes.Laws.{same-eq, same_refl}
 use Rattle.records.proofs.finder.Modules.{is_at_lem, find-by-name}
 use Rattle.records.proofs.set.Blocks.{GoodSet}
@@ -23,6 +22,7 @@ use Rattle.resolution.proofs.Positions.{get_or-any, visible_in}
 use Rattle.resolution.proofs.Sets.{set-length}
 use Rattle.access.specs.Access.{passes, edge_to, is_reader, reads_name}
 use Rattle.access.specs.ReadGraph.{reads_at, reads_unnamed_at}
+use Rattle.std.specs.Prelude.{Some, None}
 
 -- each of these names is among them
 own_name : (l : List Name) (j : ℕ) → j < length l → mem_name (get_or l j []) l ≡ true
@@ -44,7 +44,7 @@ module _ (s : List ℕ) (n : ℕ) (t : List ℕ) (g : GoodSet s n t) (c : List �
   own-name-at i v = get_or-any (map (λ (m : Descriptor). m.name) (modules s)) i [] (descriptor_of []).name (omega (arith, visible_in (modules s) i v, length-map (modules s) (λ (m : Descriptor). m.name)))
       ∙ get_or-map (λ (m : Descriptor). m.name) (modules s) i (descriptor_of [])
 
-  found-own : (i : ℕ) → Seen i → find_module s (name_of i) ≡ At i
+  found-own : (i : ℕ) → Seen i → find_module s (name_of i) ≡ Some i
   unfolding find_module is_visible is_first
   found-own i v = rw (own-name-at i v) (is_at_lem (find_name (map (λ (m : Descriptor). m.name) (modules s)) (module_at (modules s) i).name 0) i v)
 
@@ -68,9 +68,9 @@ module _ (s : List ℕ) (n : ℕ) (t : List ℕ) (g : GoodSet s n t) (c : List �
   other_name : (j : ℕ) → Seen j → same_bytes (name_of j) all_unnamed ≡ false
   other_name j l = by (same_bytes (name_of j) all_unnamed) (λ y. absurd (no_module j (omega (arith, visible_in (modules s) j l, set-length s n t g)) (same-eq (name_of j) all_unnamed y))) (λ y. y)
 
-  not_found : (f : Found) → find_module s all_unnamed ≡ f → find_module s all_unnamed ≡ Nothing
-  not_found (At j) e = let r = find-by-name s n t g all_unnamed j e in absurd (no_module j r.0 r.1)
-  not_found Nothing e = e
+  not_found : (f : Found) → find_module s all_unnamed ≡ f → find_module s all_unnamed ≡ None
+  not_found (Some j) e = let r = find-by-name s n t g all_unnamed j e in absurd (no_module j r.0 r.1)
+  not_found None e = e
 
   -- an edge that counts is a read edge between the names
   pub reads-is : (i j : ℕ) → Seen i → Seen j → reads_at s c i j ≡ reads_name s c (name_of i) (name_of j)

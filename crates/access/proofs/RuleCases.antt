@@ -21,7 +21,7 @@ use Rattle.access.specs.Form.{MO, MO_open, MO_automatic, RQ, RQ_transitive, RQ_s
 use Rattle.access.specs.PlaceCases.{q}
 use Rattle.access.specs.ReadGraph.{reads_at, step, then, readers_of, transitive_reads}
 use Rattle.access.specs.RuleCases.{s, t, base, beside, requiring, chain, chain_broken, services, sharing, PL7, jar_name, jar_module, jar_records, access, RuleCases}
-use Rattle.access.specs.declared.access.AccessAnswer.{AccessAnswer}
+use Rattle.access.specs.Access.{AccessAnswer}
 use Rattle.access.proofs.Cases.{ask}
 use Rattle.access.proofs.PlaceCases.{place-cases}
 

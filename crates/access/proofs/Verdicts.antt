@@ -10,17 +10,17 @@ use Rattle.records.specs.Bytes.{same_bytes}
 use Rattle.records.specs.Descriptor.{Descriptor}
 use Rattle.records.specs.Name.{java_base, all_unnamed, mem_name}
 use Rattle.records.specs.Request.{Request, has_grant, request_of, check_inputs}
-use Rattle.records.specs.declared.set.SetAnswer.TheVariants as Set
 use Rattle.records.proofs.Logic.{clash, true≠false}
 use Rattle.resolution.specs.Configuration.{word_count}
 use Rattle.resolution.specs.Lists.{Name}
 use Rattle.resolution.proofs.ConfigurationWords.{with_enough}
 use Rattle.resolution.proofs.Lists.{imp, or_imp, same_imp, use_imp}
-use Rattle.access.specs.Access.{reads_name, resolved_module, grants_of, denied, pick_result, grants, granted, named_verdict, unnamed_granted, unnamed_verdict, verdict, answered, check_access}
+use Rattle.access.specs.Access.{AccessAnswer, reads_name, resolved_module, grants_of, denied, pick_result, grants, granted, named_verdict, unnamed_granted, unnamed_verdict, verdict, answered, check_access}
 use Rattle.access.specs.FormerPair.{FormerPair}
 use Rattle.access.specs.declared.access.AccessCheckResult.{AccessCheckResult}
 use Rattle.access.specs.declared.access.AccessCheckResult.TheVariants.{Allowed, NotReadable}
-use Rattle.access.specs.declared.access.AccessAnswer.TheVariants.{Verdict}
+use Rattle.std.specs.Prelude.{Ok}
+use Rattle.records.specs.Set.{count_of}
 
 -- ---- what a choice that allows says of its test
 
@@ -99,12 +99,12 @@ module _ (reflection : Bool) (s₁ : List ℕ) (rq₁ : Request) (c₁ : List �
 -- ---- over bytes
 
 -- where the inputs are taken, the answer is the verdict
-pub answer-is : (reflection : Bool) (s q : List ℕ) (n : ℕ) → (check_inputs s q).answer ≡ Set.Modules n → (c : List ℕ) → word_count ≤ length c → (asker target p : Name)
-    → check_access reflection s q c asker target p ≡ Verdict (verdict reflection s (request_of q) c asker target p)
+pub answer-is : (reflection : Bool) (s q : List ℕ) (n : ℕ) → count_of (check_inputs s q) ≡ Ok n → (c : List ℕ) → word_count ≤ length c → (asker target p : Name)
+    → check_access reflection s q c asker target p ≡ Ok (verdict reflection s (request_of q) c asker target p)
 unfolding check_access answered
-answer-is reflection s q n h c l asker target p = ap (answered reflection s q c asker target p) (with_enough c (check_inputs s q).answer n h l)
+answer-is reflection s q n h c l asker target p = ap (answered reflection s q c asker target p) (with_enough c (count_of (check_inputs s q)) n h l)
 
-pub verdict-out : (r : AccessCheckResult) → Verdict r ≡ Verdict Allowed → r ≡ Allowed
+pub verdict-out : (r : AccessCheckResult) → ◌≡◌ {A = AccessAnswer} (Ok r) (Ok Allowed) → r ≡ Allowed
 verdict-out r e = cc
 
 -- ---- the kinds

@@ -9,8 +9,7 @@ use Rattle.records.specs.Descriptor.{Descriptor, descriptor_of}
 use Rattle.records.specs.Finder.{visible_blocks}
 use Rattle.records.specs.Name.{java_base}
 use Rattle.records.specs.Request.{Request, request_of, check_inputs}
-use Rattle.records.specs.Set.{modules}
-use Rattle.records.specs.declared.set.SetAnswer.TheVariants as Set
+use Rattle.records.specs.Set.{modules, count_of, starts_in}
 use Rattle.records.proofs.request.Taken.{inputs-taken, inputs-over}
 use Rattle.records.proofs.set.Blocks.{good-set}
 use Rattle.records.proofs.set.Visible.{VisibleSet, visible-set}
@@ -23,11 +22,11 @@ use Rattle.access.specs.Access.{reads_name, resolved_module, is_reflection, name
 use Rattle.access.specs.Demand3.{configuration, Grows}
 use Rattle.access.specs.Members.{verdict_by}
 use Rattle.access.specs.Visible.{SameByNames}
-use Rattle.access.specs.declared.access.AccessAnswer.TheVariants.{Verdict}
 use Rattle.access.specs.declared.access.AccessCheckResult.{AccessCheckResult}
 use Rattle.access.proofs.Demand3.{all-kept}
 use Rattle.access.proofs.Names.{Done, accepted-out, accepted_in, configuration_enough, done-named}
 use Rattle.access.proofs.Verdicts.{answer-is}
+use Rattle.std.specs.Prelude.{Ok}
 
 -- a verdict looks at whether the asker reads the target, and at the target where it is resolved
 pub verdict-is : (reflection : Bool) (s : List ℕ) (rq : Request) (c : List ℕ) (asker target p : Name)
@@ -35,12 +34,12 @@ pub verdict-is : (reflection : Bool) (s : List ℕ) (rq : Request) (c : List ℕ
 unfolding verdict named_verdict unnamed_verdict verdict_by
 verdict-is reflection s rq c asker target p = refl
 
-module _ (s q ws : List ℕ) (n : ℕ) (h : (check_inputs s q).answer ≡ Set.Modules n) where
+module _ (s q ws : List ℕ) (n : ℕ) (h : count_of (check_inputs s q) ≡ Ok n) where
   abbrev v : List ℕ
   v = flatten (visible_blocks s)
 
   set-of : VisibleSet s v
-  set-of = visible-set s n (check_inputs s q).starts (inputs-taken s q n (check_inputs s q) refl h)
+  set-of = visible-set s n (starts_in (check_inputs s q)) (inputs-taken s q n (check_inputs s q) refl h)
 
   modules_are : modules v ≡ observable (modules s)
   unfolding modules
@@ -98,7 +97,7 @@ module _ (s q ws : List ℕ) (n : ℕ) (h : (check_inputs s q).answer ≡ Set.Mo
         → check_access reflection s q (configuration s q ws) asker target p ≡ check_access reflection v q (configuration v q ws) asker target p
     same-verdict reflection asker target p =
         answer-is reflection s q d.count d.taken (configuration s q ws) (configuration_enough s q ws d) asker target p
-        ∙ ap Verdict (verdict-is reflection s (request_of q) (configuration s q ws) asker target p
+        ∙ ap Ok (verdict-is reflection s (request_of q) (configuration s q ws) asker target p
         ∙ ap (λ (m : Option Descriptor). by_both m (reads_name s (configuration s q ws) asker target)) (same_module target)
         ∙ ap (by_both (resolved_module v (configuration v q ws) target)) (same_reads asker target)
         ∙ sym (verdict-is reflection v (request_of q) (configuration v q ws) asker target p))

@@ -6,12 +6,10 @@ use Rattle.records.specs.Bytes.{same_bytes}
 use Rattle.records.specs.Name.{java_base, all_unnamed, mem_name}
 use Rattle.records.specs.Descriptor.{Descriptor, Entry, reaches}
 use Rattle.records.specs.Request.{Request, Grant, request_of, has_grant, check_inputs}
-use Rattle.records.specs.Set.{modules}
+use Rattle.records.specs.Set.{modules, count_of}
 use Rattle.records.specs.Finder.{find_module}
-use Rattle.records.specs.declared.finder.Found.{Found}
-use Rattle.records.specs.declared.finder.Found.TheVariants.{At, Nothing}
-use Rattle.records.specs.declared.set.SetAnswer.{SetAnswer}
-use Rattle.records.specs.declared.set.SetAnswer.TheVariants as Set
+use Rattle.records.specs.Finder.{Found}
+use Rattle.records.specs.Set.{CountAnswer}
 use Rattle.resolution.specs.Lists.{Name}
 use Rattle.resolution.specs.Observed.{has_member, has_edge, has_unnamed_edge}
 use Rattle.resolution.specs.Configuration.{with_words}
@@ -20,15 +18,19 @@ use Rattle.access.specs.declared.access.AccessKind.{AccessKind}
 use Rattle.access.specs.declared.access.AccessKind.TheVariants.{Access, Reflection}
 use Rattle.access.specs.declared.access.AccessCheckResult.{AccessCheckResult}
 use Rattle.access.specs.declared.access.AccessCheckResult.TheVariants.{Allowed, NotReadable, NotExported, NotOpened}
-use Rattle.access.specs.declared.access.AccessAnswer.{AccessAnswer}
-use Rattle.access.specs.declared.access.AccessAnswer.TheVariants.{Verdict, Refused}
+use Rattle.std.specs.Prelude.{Some, None, Result, Ok, Err}
+use Rattle.records.specs.declared.error.ModuleError.{ModuleError}
+
+-- the verdict, or why the set, the request or the words are refused
+abbrev pub AccessAnswer : Type 0
+AccessAnswer = Result AccessCheckResult ModuleError
 
 -- ---- what a configuration says of names, by the three tests of the crate `resolution` (`Observed`)
 
 -- what is found passes the test
 unfoldable pub passes : (ℕ → Bool) → Found → Bool
-passes p (At i) = p i
-passes p Nothing = false
+passes p (Some i) = p i
+passes p None = false
 
 -- the module of this name is a member
 unfoldable pub is_member : List ℕ → List ℕ → Name → Bool
@@ -126,13 +128,13 @@ verdict reflection s rq c asker target p =
     pick_result (same_bytes asker target) Allowed
     (pick_result (same_bytes asker all_unnamed) (unnamed_verdict reflection s rq c target p) (named_verdict reflection s rq c asker target p))
 
-unfoldable pub answered : Bool → List ℕ → List ℕ → List ℕ → Name → Name → Name → SetAnswer → AccessAnswer
+unfoldable pub answered : Bool → List ℕ → List ℕ → List ℕ → Name → Name → Name → CountAnswer → AccessAnswer
 unfolding verdict
-answered reflection s q c asker target p (Set.Refused e) = Refused e
-answered reflection s q c asker target p (Set.Modules n) = Verdict (verdict reflection s (request_of q) c asker target p)
+answered reflection s q c asker target p (Err e) = Err e
+answered reflection s q c asker target p (Ok n) = Ok (verdict reflection s (request_of q) c asker target p)
 
 -- "Questions take the set and request too and end only with 1 to 3"; "a shorter slice is an output too short, number 4 with 4,616,
 -- tested after the records .. in questions too" (U12)
 unfoldable pub check_access : Bool → List ℕ → List ℕ → List ℕ → Name → Name → Name → AccessAnswer
 unfolding answered with_words
-check_access reflection s q c asker target p = answered reflection s q c asker target p (with_words c (check_inputs s q).answer)
+check_access reflection s q c asker target p = answered reflection s q c asker target p (with_words c (count_of (check_inputs s q)))

@@ -6,8 +6,6 @@ use Rattle.records.specs.Request.{request_of}
 use Rattle.records.specs.Set.{modules}
 use Rattle.records.specs.Automatic.{derived, derived_name}
 use Rattle.records.specs.Cases.{foot_notes_jar, foot_notes, versions_jar, only_jar}
-use Rattle.records.specs.declared.automatic.Named.TheVariants.{Valid}
-use Rattle.records.specs.declared.automatic.Named.TheVariants as Named
 use Rattle.records.specs.declared.error.Input.TheVariants as Input
 use Rattle.records.specs.declared.error.ModuleError.TheVariants.{ModuleNotFound, JavaBaseNotFound, InvalidAutomaticModuleName, InvalidModuleName}
 use Rattle.resolution.specs.Configuration.{word_count}
@@ -17,12 +15,11 @@ use Rattle.resolution.specs.Resolution.{State, Refusal}
 use Rattle.resolution.specs.Resolution as Resolution
 use Rattle.resolution.specs.Resolve.{refused, resolve}
 use Rattle.resolution.specs.Cases.{members_of, reads_of, owners_of, a, b, c, java_lang, page_core, page_foot, page_frames, foot_package, frame_package, base_set, listing_set, cycle_set, listing_request, root_a, root_a_nothing_permitted}
-use Rattle.resolution.specs.declared.resolve.Outcome.TheVariants.{Accepted}
 use Rattle.access.specs.Access.{reads_name, is_reflection, check_access}
 use Rattle.access.specs.Demand3.{configuration}
 use Rattle.access.specs.declared.access.AccessKind.TheVariants.{Access}
-use Rattle.access.specs.declared.access.AccessAnswer.TheVariants.{Verdict}
 use Rattle.access.specs.declared.access.AccessCheckResult.TheVariants.{NotExported}
+use Rattle.std.specs.Prelude.{Ok, Err}
 
 -- java.base; a (EX p to b, EX p unqualified); c (RQ a)
 unfoldable pub exports_set : List ℕ
@@ -50,7 +47,7 @@ resolved s q = Resolution.resolve (modules s) (request_of q)
 -- where `ws` stands, whatever words are lent, if they are enough
 pub record TenCases : Type 0 where
   -- "(1) the listing"
-  pub case1 : (ws : List ℕ) → word_count ≤ length ws → (resolve listing_set listing_request ws).outcome ≡ Accepted
+  pub case1 : (ws : List ℕ) → word_count ≤ length ws → (resolve listing_set listing_request ws).outcome ≡ Ok tt
   pub case1_modules : members_of (resolved listing_set listing_request) ≡ java_base ∷ page_core ∷ page_foot ∷ page_frames ∷ []
   pub case1_reads : reads_of (request_of listing_request) (resolved listing_set listing_request)
       ≡ (java_base, []) ∷ (page_core, java_base ∷ page_frames ∷ []) ∷ (page_foot, java_base ∷ page_frames ∷ []) ∷ (page_frames, java_base ∷ []) ∷ []
@@ -58,22 +55,22 @@ pub record TenCases : Type 0 where
   -- "(2) empty set: 6"
   pub case2 : (ws : List ℕ) → word_count ≤ length ws → resolve [] [] ws ≡ refused JavaBaseNotFound ws
   -- "(3) java.base alone, no root: one module"
-  pub case3 : (ws : List ℕ) → word_count ≤ length ws → (resolve base_set [] ws).outcome ≡ Accepted
+  pub case3 : (ws : List ℕ) → word_count ≤ length ws → (resolve base_set [] ws).outcome ≡ Ok tt
   pub case3_modules : members_of (resolved base_set []) ≡ java_base ∷ []
   -- "(4) that, root absent a: 5"
   pub case4 : (ws : List ℕ) → word_count ≤ length ws → resolve base_set root_a ws ≡ refused (ModuleNotFound Input.Request 5 1) ws
   -- "(5) (4) with empty LM: accepted"
-  pub case5 : (ws : List ℕ) → word_count ≤ length ws → (resolve base_set root_a_nothing_permitted ws).outcome ≡ Accepted
+  pub case5 : (ws : List ℕ) → word_count ≤ length ws → (resolve base_set root_a_nothing_permitted ws).outcome ≡ Ok tt
   -- "(6) `foot-notes-2.4.jar`: foot.notes"
-  pub case6 : derived foot_notes_jar ≡ Valid
+  pub case6 : derived foot_notes_jar ≡ Ok tt
   pub case6_name : derived_name foot_notes_jar ≡ foot_notes
   -- "(7) `a-1-2.jar`: 10"
-  pub case7 : derived versions_jar ≡ Named.Refused InvalidModuleName
+  pub case7 : derived versions_jar ≡ Err InvalidModuleName
   -- "(8) `.jar`: 9"
-  pub case8 : derived only_jar ≡ Named.Refused InvalidAutomaticModuleName
+  pub case8 : derived only_jar ≡ Err InvalidAutomaticModuleName
   -- "(9) EX p to b, then EX p unqualified, asker c reading it: NotExported"
   pub case9_reads : reads_name exports_set (resolved_to exports_set root_c) c a ≡ true
-  pub case9 : check_access (is_reflection Access) exports_set root_c (resolved_to exports_set root_c) c a p ≡ Verdict NotExported
+  pub case9 : check_access (is_reflection Access) exports_set root_c (resolved_to exports_set root_c) c a p ≡ Ok NotExported
   -- "(10) java.base, root a, a and b requiring each other transitively: both read themselves"
-  pub case10 : (ws : List ℕ) → word_count ≤ length ws → (resolve cycle_set root_a ws).outcome ≡ Accepted
+  pub case10 : (ws : List ℕ) → word_count ≤ length ws → (resolve cycle_set root_a ws).outcome ≡ Ok tt
   pub case10_reads : reads_of (request_of root_a) (resolved cycle_set root_a) ≡ (a, a ∷ b ∷ java_base ∷ []) ∷ (b, a ∷ b ∷ java_base ∷ []) ∷ (java_base, []) ∷ []

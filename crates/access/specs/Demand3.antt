@@ -9,16 +9,14 @@ use Rattle.resolution.specs.Closed.{Smallest}
 use Rattle.resolution.specs.Resolve.{resolve}
 use Rattle.resolution.specs.PackageOwner.{find_module_for_package}
 use Rattle.resolution.specs.Positions.{module_at}
-use Rattle.resolution.specs.declared.owner.Owner.TheVariants.{At}
-use Rattle.resolution.specs.declared.resolve.Outcome.TheVariants.{Accepted}
 use Rattle.access.specs.Access.{is_member, reads_name, is_reflection, check_access}
 use Rattle.access.specs.declared.access.AccessKind.{AccessKind}
-use Rattle.access.specs.declared.access.AccessAnswer.TheVariants.{Verdict}
 use Rattle.access.specs.declared.access.AccessCheckResult.TheVariants.{Allowed}
+use Rattle.std.specs.Prelude.{Some, Ok}
 
 -- "if accepted": ws are the words that the host lends
 abbrev pub IsAccepted : List ℕ → List ℕ → List ℕ → Type 0
-IsAccepted s q ws = (resolve s q ws).outcome ≡ Accepted
+IsAccepted s q ws = (resolve s q ws).outcome ≡ Ok tt
 
 -- "the configuration they resolve to": the words that `resolve` writes
 abbrev pub configuration : List ℕ → List ℕ → List ℕ → List ℕ
@@ -30,7 +28,7 @@ Resolved s q ws n = is_member s (configuration s q ws) n ≡ true
 
 -- the package p is owned by the module n
 abbrev pub Owns : List ℕ → List ℕ → List ℕ → Name → Name → Type 0
-Owns s q ws n p = (i : ℕ) × (find_module_for_package s (configuration s q ws) p ≡ At i) × ((module_at (modules s) i).name ≡ n)
+Owns s q ws n p = (i : ℕ) × (find_module_for_package s (configuration s q ws) p ≡ (Ok (Some i))) × ((module_at (modules s) i).name ≡ n)
 
 -- "of any two accepted requests, each with its set"
 pub record Grows (s₁ q₁ s₂ q₂ : List ℕ) : Type 0 where
@@ -57,8 +55,8 @@ pub record KeepsAll (s₁ q₁ ws₁ s₂ q₂ ws₂ : List ℕ) : Type 0 where
   pub owners : (n p : Name) → Owns s₁ q₁ ws₁ n p → Owns s₂ q₂ ws₂ n p
   -- "and every question of any three byte strings, for access or for reflection, that is Allowed in the first is Allowed in the
   -- second"
-  pub allowed : (kind : AccessKind) (asker target p : Name) → check_access (is_reflection kind) s₁ q₁ (configuration s₁ q₁ ws₁) asker target p ≡ Verdict Allowed
-      → check_access (is_reflection kind) s₂ q₂ (configuration s₂ q₂ ws₂) asker target p ≡ Verdict Allowed
+  pub allowed : (kind : AccessKind) (asker target p : Name) → check_access (is_reflection kind) s₁ q₁ (configuration s₁ q₁ ws₁) asker target p ≡ Ok Allowed
+      → check_access (is_reflection kind) s₂ q₂ (configuration s₂ q₂ ws₂) asker target p ≡ Ok Allowed
 
 pub record Demand3 : Type 1 where
   -- "Whatever the set and the request, if accepted: the modules resolved are a set of observable modules that holds java.base,

@@ -1,17 +1,16 @@
 -- What each step of the questions about the graph leaves. Everywhere below n is the number of the set's modules, ws is the row of the
 -- members that count and g the words of the configuration; v tells the positions of observable modules.
 use Rattle.std.specs.Prelude.{◌≡◌, Bool, true, ◌&&◌, ◌||◌, List, ℕ, ◌<◌, ltb}
-use Rattle.records.specs.declared.finder.Found.{Found}
+use Rattle.records.specs.Finder.{Found}
 use Rattle.resolution.specs.Row.{holds, words}
 use Rattle.resolution.specs.Configuration.{member_bit, edge_bit, unnamed_bit}
 use Rattle.access.specs.Access.{passes}
 use Rattle.access.specs.ReadGraph.{row_length, Leads, LeadsToOne}
-use Rattle.access.specs.declared.graph.GraphOutcome.TheVariants.{Answered}
 use Rattle.access.specs.declared.graph.GraphAnswer.{GraphAnswer}
 
 -- the answer of this row
 pub record Told (row : List ℕ) (unnamed : Bool) (r : GraphAnswer) : Type 0 where
-  pub is : r ≡ record { outcome = Answered; row = row; unnamed = unnamed }
+  pub is : r ≡ record { row = row; unnamed = unnamed }
   -- the words are those of any test that these positions pass
   pub by_words : (p : ℕ → Bool) → ((k : ℕ) → k < 512 → holds row k ≡ p k) → row ≡ words p row_length
 
@@ -77,7 +76,6 @@ unnamed_in row ws g k = holds row k && (holds ws k && unnamed_bit g k)
 
 -- the answer r tells what the module at i leads to
 pub record Onward (v : ℕ → Bool) (ws g : List ℕ) (i : ℕ) (r : GraphAnswer) : Type 0 where
-  pub outcome : r.outcome ≡ Answered
   pub row_words : r.row ≡ words (holds r.row) row_length
   pub row_sound : (k : ℕ) → holds r.row k ≡ true → Leads (edge_counts v ws g) i k
   pub row_complete : (k : ℕ) → Leads (edge_counts v ws g) i k → holds r.row k ≡ true

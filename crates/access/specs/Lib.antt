@@ -14,4 +14,5 @@ pub mod RuleCases
 pub mod StaticCases
 -- The forms that the code follows.
 pub mod Members
+pub mod Question
 pub mod GraphSteps

@@ -6,15 +6,13 @@ use Rattle.resolution.specs.Configuration.{member_words, row_words}
 use Rattle.resolution.specs.Lists.{Name, Mem}
 use Rattle.resolution.specs.Cases.{a, b, root_a}
 use Rattle.resolution.specs.PackageOwner.{find_module_for_package}
-use Rattle.resolution.specs.declared.owner.Owner.TheVariants.{At, Nothing}
 use Rattle.access.specs.Access.{is_member, is_reflection, check_access}
 use Rattle.access.specs.ReadGraph.{readers_of}
 use Rattle.access.specs.Cases.{p, lent, resolved_to}
 use Rattle.access.specs.Demand3.{IsAccepted}
 use Rattle.access.specs.declared.access.AccessKind.TheVariants.{Access}
-use Rattle.access.specs.declared.access.AccessAnswer.TheVariants.{Verdict}
 use Rattle.access.specs.declared.access.AccessCheckResult.TheVariants.{NotExported}
-use Rattle.access.specs.declared.graph.GraphOutcome.TheVariants.{Answered}
+use Rattle.std.specs.Prelude.{Some, None, Ok}
 
 -- the package q
 unfoldable pub q : Name
@@ -58,13 +56,13 @@ pub record PlaceCases : Type 0 where
   pub between_members : member_words (resolved_to hidden_set hidden_request) ≡ 11 ∷ 0 ∷ 0 ∷ 0 ∷ 0 ∷ 0 ∷ 0 ∷ 0 ∷ []
   pub between_rows : take 36 (row_words (resolved_to hidden_set hidden_request)) ≡ 0 ∷ 0 ∷ 0 ∷ 0 ∷ 0 ∷ 0 ∷ 0 ∷ 0 ∷ 0 ∷ 1 ∷ 0 ∷ 0 ∷ 0 ∷ 0 ∷ 0 ∷ 0 ∷ 0 ∷ 1 ∷ 0 ∷ 0 ∷ 0 ∷ 0 ∷ 0 ∷ 0 ∷ 0 ∷ 0 ∷ 0 ∷ 3 ∷ 0 ∷ 0 ∷ 0 ∷ 0 ∷ 0 ∷ 0 ∷ 0 ∷ 0 ∷ []
   -- its package has no owner, and its EX grants nothing
-  pub seen_owner : find_module_for_package hidden_set (resolved_to hidden_set hidden_request) p ≡ At 1
-  pub hidden_owner : find_module_for_package hidden_set (resolved_to hidden_set hidden_request) q ≡ Nothing
-  pub hidden_export : check_access (is_reflection Access) hidden_set hidden_request (resolved_to hidden_set hidden_request) a b q ≡ Verdict NotExported
+  pub seen_owner : find_module_for_package hidden_set (resolved_to hidden_set hidden_request) p ≡ (Ok (Some 1))
+  pub hidden_owner : find_module_for_package hidden_set (resolved_to hidden_set hidden_request) q ≡ (Ok None)
+  pub hidden_export : check_access (is_reflection Access) hidden_set hidden_request (resolved_to hidden_set hidden_request) a b q ≡ Ok NotExported
   -- over a configuration that has its bits, it is no owner and no reader (`Agree` has this for any configuration)
-  pub alone_owner : find_module_for_package hidden_set hidden_alone q ≡ Nothing
-  pub alone_readers : readers_of hidden_set hidden_alone java_base ≡ record { outcome = Answered; row = replicate 8 0; unnamed = false }
-  pub alone_unnamed : readers_of hidden_set hidden_alone all_unnamed ≡ record { outcome = Answered; row = replicate 8 0; unnamed = false }
+  pub alone_owner : find_module_for_package hidden_set hidden_alone q ≡ (Ok None)
+  pub alone_readers : readers_of hidden_set hidden_alone java_base ≡ Ok (record { row = replicate 8 0; unnamed = false })
+  pub alone_unnamed : readers_of hidden_set hidden_alone all_unnamed ≡ Ok (record { row = replicate 8 0; unnamed = false })
   -- its service is not provided, and is where nothing hides it
   pub service_hidden : member_words (resolved_to service_set root_a) ≡ 3 ∷ 0 ∷ 0 ∷ 0 ∷ 0 ∷ 0 ∷ 0 ∷ 0 ∷ []
   pub service_bound : member_words (resolved_to bound_set root_a) ≡ 7 ∷ 0 ∷ 0 ∷ 0 ∷ 0 ∷ 0 ∷ 0 ∷ 0 ∷ []

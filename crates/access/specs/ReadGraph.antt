@@ -1,19 +1,17 @@
 -- The graph of reads of a configuration (document 01, "Access"): who reads a name, and what one read edge or more lead to.
 use Rattle.std.specs.Prelude.{◌≡◌, Bool, true, false, ◌&&◌, ◌||◌, List, ◌⊎◌, ℕ, zero, suc, replicate}
-use Rattle.records.specs.Set.{modules, check_set}
+use Rattle.records.specs.Set.{modules, check_set, count_of}
 use Rattle.records.specs.Finder.{find_module}
 use Rattle.records.specs.declared.error.ModuleError.{ModuleError}
-use Rattle.records.specs.declared.finder.Found.{Found}
-use Rattle.records.specs.declared.finder.Found.TheVariants.{At, Nothing}
-use Rattle.records.specs.declared.set.SetAnswer.{SetAnswer}
-use Rattle.records.specs.declared.set.SetAnswer.TheVariants as Set
+use Rattle.records.specs.Finder.{Found}
+use Rattle.records.specs.Set.{CountAnswer}
 use Rattle.resolution.specs.Configuration.{with_words}
 use Rattle.resolution.specs.Lists.{Name}
 use Rattle.resolution.specs.Observed.{has_member, has_edge, has_unnamed_edge}
 use Rattle.resolution.specs.Row.{holds, words}
 use Rattle.access.specs.Access.{is_reader}
-use Rattle.access.specs.declared.graph.GraphOutcome.TheVariants.{Answered, Refused}
 use Rattle.access.specs.declared.graph.GraphAnswer.{GraphAnswer}
+use Rattle.std.specs.Prelude.{Some, None, Result, Ok, Err}
 
 -- ---- edges that count
 
@@ -56,39 +54,38 @@ led_row r n i = widened_times r n n (words (r i) row_length)
 
 -- ---- the answers
 
--- refusals 1 to 3 of the set, and 4 for fewer than 4,616 words (U12): nothing else is said
-unfoldable pub refused_graph : ModuleError → GraphAnswer
-refused_graph e = record { outcome = Refused e; row = replicate row_length 0; unnamed = false }
+-- the answer, or refusals 1 to 3 of the set, and 4 for fewer than 4,616 words (U12)
+abbrev pub GraphOutcome : Type 0
+GraphOutcome = Result GraphAnswer ModuleError
 
-unfoldable pub readers_answered : List ℕ → List ℕ → Name → SetAnswer → GraphAnswer
-unfolding refused_graph words is_reader
-readers_answered s c y (Set.Refused e) = refused_graph e
-readers_answered s c y (Set.Modules n) = record { outcome = Answered; row = words (is_reader s c y) row_length; unnamed = false }
+unfoldable pub readers_answered : List ℕ → List ℕ → Name → CountAnswer → GraphOutcome
+unfolding words is_reader
+readers_answered s c y (Err e) = Err e
+readers_answered s c y (Ok n) = Ok (record { row = words (is_reader s c y) row_length; unnamed = false })
 
 -- the members that read y; ALL-UNNAMED is never among them
-unfoldable pub readers_of : List ℕ → List ℕ → Name → GraphAnswer
+unfoldable pub readers_of : List ℕ → List ℕ → Name → GraphOutcome
 unfolding readers_answered with_words
-readers_of s c y = readers_answered s c y (with_words c (check_set s).answer)
+readers_of s c y = readers_answered s c y (with_words c (count_of (check_set s)))
 
 -- from a position that is found: what the module there leads to, and whether it or one of these reads ALL-UNNAMED
 unfoldable pub led_found : List ℕ → List ℕ → ℕ → Found → GraphAnswer
 unfolding led_row reads_at reads_unnamed_at any_below
-led_found s c n (At i) = record {
-  outcome = Answered;
+led_found s c n (Some i) = record {
   row = led_row (reads_at s c) n i;
   unnamed = reads_unnamed_at s c i || any_below (λ k. holds (led_row (reads_at s c) n i) k && reads_unnamed_at s c k) n;
 }
-led_found s c n Nothing = record { outcome = Answered; row = replicate row_length 0; unnamed = false }
+led_found s c n None = record { row = replicate row_length 0; unnamed = false }
 
-unfoldable pub transitive_answered : List ℕ → List ℕ → Name → SetAnswer → GraphAnswer
-unfolding refused_graph led_found
-transitive_answered s c x (Set.Refused e) = refused_graph e
-transitive_answered s c x (Set.Modules n) = led_found s c n (find_module s x)
+unfoldable pub transitive_answered : List ℕ → List ℕ → Name → CountAnswer → GraphOutcome
+unfolding led_found
+transitive_answered s c x (Err e) = Err e
+transitive_answered s c x (Ok n) = Ok (led_found s c n (find_module s x))
 
 -- "`transitive_reads` (one edge or more); a name without any gives the empty set"
-unfoldable pub transitive_reads : List ℕ → List ℕ → Name → GraphAnswer
+unfoldable pub transitive_reads : List ℕ → List ℕ → Name → GraphOutcome
 unfolding transitive_answered with_words
-transitive_reads s c x = transitive_answered s c x (with_words c (check_set s).answer)
+transitive_reads s c x = transitive_answered s c x (with_words c (count_of (check_set s)))
 
 -- ---- what the answer of `transitive_reads` is, by paths: this one and no other (`transitive_led`, `transitive_only`)
 
@@ -107,15 +104,14 @@ LeadsToUnnamed s c i = LeadsToOne (reads_at s c) (reads_unnamed_at s c) i
 
 -- the answer r tells all that the module of the name x leads to, and nothing else; nothing, where no module has the name
 pub record LedFrom (s : List ℕ) (c : List ℕ) (x : Name) (r : GraphAnswer) : Type 0 where
-  pub outcome : r.outcome ≡ Answered
   -- eight words, given by the positions that they hold
   pub row_words : r.row ≡ words (holds r.row) row_length
-  pub row_sound : (k : ℕ) → holds r.row k ≡ true → (i : ℕ) × (find_module s x ≡ At i) × Leads (reads_at s c) i k
-  pub row_complete : (i k : ℕ) → find_module s x ≡ At i → Leads (reads_at s c) i k → holds r.row k ≡ true
-  pub unnamed_sound : r.unnamed ≡ true → (i : ℕ) × (find_module s x ≡ At i) × LeadsToUnnamed s c i
-  pub unnamed_complete : (i : ℕ) → find_module s x ≡ At i → LeadsToUnnamed s c i → r.unnamed ≡ true
+  pub row_sound : (k : ℕ) → holds r.row k ≡ true → (i : ℕ) × (find_module s x ≡ Some i) × Leads (reads_at s c) i k
+  pub row_complete : (i k : ℕ) → find_module s x ≡ Some i → Leads (reads_at s c) i k → holds r.row k ≡ true
+  pub unnamed_sound : r.unnamed ≡ true → (i : ℕ) × (find_module s x ≡ Some i) × LeadsToUnnamed s c i
+  pub unnamed_complete : (i : ℕ) → find_module s x ≡ Some i → LeadsToUnnamed s c i → r.unnamed ≡ true
 
 -- the refusals first
-pub record TransitiveReads (s : List ℕ) (c : List ℕ) (x : Name) (r : GraphAnswer) : Type 0 where
-  pub refused : (e : ModuleError) → with_words c (check_set s).answer ≡ Set.Refused e → r ≡ refused_graph e
-  pub answered : (n : ℕ) → with_words c (check_set s).answer ≡ Set.Modules n → LedFrom s c x r
+pub record TransitiveReads (s : List ℕ) (c : List ℕ) (x : Name) (r : GraphOutcome) : Type 0 where
+  pub refused : (e : ModuleError) → with_words c (count_of (check_set s)) ≡ Err e → r ≡ Err e
+  pub answered : (n : ℕ) → with_words c (count_of (check_set s)) ≡ Ok n → (a : GraphAnswer) × (r ≡ Ok a) × LedFrom s c x a

@@ -3,14 +3,13 @@ ghost use Rattle.std.specs.Prelude.{◌≡◌, ◌&&◌, ◌||◌};
 ghost use Rattle.records.specs.Bytes.{same_bytes};
 ghost use Rattle.records.specs.Name.{java_base, all_unnamed};
 ghost use Rattle.records.specs.Descriptor.{descriptor_of};
-ghost use Rattle.records.specs.Request.{request_of, has_grant};
+ghost use Rattle.records.specs.Request.{request_of};
 ghost use Rattle.records.specs.Set.{check_set};
 ghost use Rattle.records.specs.Finder.{find_module};
-ghost use Rattle.records.specs.declared.set.SetAnswer.TheVariants.{Modules};
 ghost use Rattle.resolution.specs.Lookup.{Lookup};
 ghost use Rattle.resolution.specs.Configuration.{edge_bit, unnamed_bit};
-ghost use Rattle.access.specs.Access.{passes, reads_name, is_reflection, grants_of, denied as deniedBy, pick_result, grants as grantsBy, granted as grantedBy, unnamed_granted, check_access};
-ghost use Rattle.access.specs.Members.{module_of, verdict_by};
+ghost use Rattle.access.specs.Access.{passes, reads_name, is_reflection, denied as deniedBy, pick_result, grants as grantsBy, granted as grantedBy, unnamed_granted, check_access};
+ghost use Rattle.access.specs.Members.{verdict_by};
 ghost use Rattle.access.specs.CanRead.{can_read};
 ghost use Rattle.access.specs.declared.access.AccessCheckResult.TheVariants.{Allowed};
 
@@ -18,12 +17,12 @@ use crate::members::member;
 use records::bytes::same;
 use records::descriptor::{has_package, is_automatic, is_open, reaches};
 use records::error::ModuleError;
-use records::finder::Found;
 use records::record::Kind;
 use records::request::{check_with, has_grant};
-use records::set::{SetAnswer, block, check_set_with};
-use records::sorted::{INDEX_LENGTH, find_in};
+use records::set::check_set_with;
+use records::sorted::INDEX_LENGTH;
 use resolution::configuration::{WORDS, reads, reads_unnamed};
+use resolution::module_table::ModuleTable;
 
 // What is asked.
 #[derive(Clone, Copy)]
@@ -40,167 +39,35 @@ pub enum AccessCheckResult {
     NotOpened,
 }
 
-// The verdict, or why the set, the request or the words are refused.
-#[derive(Clone, Copy)]
-pub enum AccessAnswer {
-    Verdict(AccessCheckResult),
-    Refused(ModuleError),
-}
-
-// Whether one module can read another, or why the set or the words are refused.
-#[derive(Clone, Copy)]
-pub enum ReadAnswer {
-    Reads(bool),
-    Refused(ModuleError),
-}
-
 // The name is ALL-UNNAMED, and that is read.
 fn is_unnamed(name: &[u8], unnamed: bool) -> bool
     ensures { result ≡ same_bytes name.now all_unnamed && unnamed }
 {
-    if same(name, b"ALL-UNNAMED") {
-        return unnamed;
-    }
-    false
+    same(name, b"ALL-UNNAMED") && unnamed
 }
 
 // Whether an edge leads from i to the module of this name, or the name is ALL-UNNAMED and i reads that.
-fn leads_to(
-    set: &[u8],
-    starts: &[usize],
-    count: usize,
-    index: &[usize],
-    words: &[u64],
-    i: usize,
-    to: &[u8],
-) -> bool
-    requires set_value { check_set set.now ≡ record { answer = Modules count; starts = starts.now } }
-    requires lookup { Lookup set.now starts.now count index.now }
-    ensures { result ≡ passes (edge_bit words.now i) (find_module set.now to.now) || (same_bytes to.now all_unnamed && unnamed_bit words.now i) }
+#[tactic(auto, using(crate::proofs::access::Laws::find_laws), unfolding(crate::specs::Access::passes))]
+fn leads_to(table: &ModuleTable, words: &[u64], i: usize, to: &[u8]) -> bool
+    ensures { result ≡ passes (edge_bit words.now i) (find_module table.now.set.now to.now) || (same_bytes to.now all_unnamed && unnamed_bit words.now i) }
 {
     if is_unnamed(to, reads_unnamed(words, i)) {
         return true;
     }
-    match find_in(set, starts, count, index, to) {
-        Found::At(j) => reads(words, i, j),
-        Found::Nothing => false,
+    match table.find(to) {
+        Some(j) => reads(words, i, j),
+        None => false,
     }
 }
 
 // Whether there is a read edge between modules of these names.
-fn reads_name(
-    set: &[u8],
-    starts: &[usize],
-    count: usize,
-    index: &[usize],
-    words: &[u64],
-    from: &[u8],
-    to: &[u8],
-) -> bool
-    requires set_value { check_set set.now ≡ record { answer = Modules count; starts = starts.now } }
-    requires lookup { Lookup set.now starts.now count index.now }
-    ensures { result ≡ reads_name set.now words.now from.now to.now }
+#[tactic(auto, using(crate::proofs::access::Laws::reads_laws))]
+fn reads_name(table: &ModuleTable, words: &[u64], from: &[u8], to: &[u8]) -> bool
+    ensures { result ≡ reads_name table.now.set.now words.now from.now to.now }
 {
-    match member(set, starts, count, index, words, from) {
-        Found::At(i) => leads_to(set, starts, count, index, words, i, to),
-        Found::Nothing => false,
-    }
-}
-
-// An AE of the request, or an AO, of these names.
-fn has_override(request: &[u8], kind: AccessKind, source: &[u8], pkg: &[u8], target: &[u8]) -> bool
-    ensures { result ≡ has_grant (grants_of (is_reflection kind) (request_of request.now)) source.now pkg.now target.now }
-{
-    match kind {
-        AccessKind::Access => has_grant(request, Kind::AddExports, source, pkg, target),
-        AccessKind::Reflection => has_grant(request, Kind::AddOpens, source, pkg, target),
-    }
-}
-
-// What a block's module itself says: an automatic one, for reflection also an open one, by its packages, any other by its first EX
-// of the package, or OP.
-fn grants(kind: AccessKind, block: &[u8], pkg: &[u8], asker: &[u8]) -> bool
-    ensures { result ≡ grantsBy (is_reflection kind) (descriptor_of block.now) pkg.now asker.now }
-{
-    if is_automatic(block) {
-        return has_package(block, pkg);
-    }
-    match kind {
-        AccessKind::Access => reaches(block, Kind::Exports, pkg, asker),
-        AccessKind::Reflection => {
-            if is_open(block) {
-                return has_package(block, pkg);
-            }
-            reaches(block, Kind::Opens, pkg, asker)
-        }
-    }
-}
-
-// An override, or what the target says, where it is resolved.
-fn granted(
-    set: &[u8],
-    starts: &[usize],
-    found: Found,
-    request: &[u8],
-    kind: AccessKind,
-    asker: &[u8],
-    target: &[u8],
-    pkg: &[u8],
-) -> bool
-    ensures { result ≡ has_grant (grants_of (is_reflection kind) (request_of request.now)) target.now pkg.now asker.now || grantedBy (is_reflection kind) (module_of set.now starts.now found) pkg.now asker.now }
-{
-    if has_override(request, kind, target, pkg, asker) {
-        return true;
-    }
-    match found {
-        Found::At(i) => grants(kind, block(set, starts, i), pkg, asker),
-        Found::Nothing => false,
-    }
-}
-
-// Asker ALL-UNNAMED: an unresolved target is denied, and at an automatic one no override helps.
-fn unnamed_granted(
-    set: &[u8],
-    starts: &[usize],
-    found: Found,
-    request: &[u8],
-    kind: AccessKind,
-    target: &[u8],
-    pkg: &[u8],
-) -> bool
-    ensures { result ≡ unnamed_granted (is_reflection kind) (request_of request.now) target.now pkg.now (module_of set.now starts.now found) }
-{
-    match found {
-        Found::At(i) => {
-            let b = block(set, starts, i);
-            if is_automatic(b) {
-                return has_package(b, pkg);
-            }
-            granted(
-                set,
-                starts,
-                found,
-                request,
-                kind,
-                b"ALL-UNNAMED",
-                target,
-                pkg,
-            )
-        }
-        Found::Nothing => false,
-    }
-}
-
-// The verdict where the target is readable.
-fn allowed(kind: AccessKind, granted: bool) -> AccessCheckResult
-    ensures { result ≡ pick_result granted Allowed (deniedBy (is_reflection kind)) }
-{
-    if granted {
-        return AccessCheckResult::Allowed;
-    }
-    match kind {
-        AccessKind::Access => AccessCheckResult::NotExported,
-        AccessKind::Reflection => AccessCheckResult::NotOpened,
+    match member(table, words, from) {
+        Some(i) => leads_to(table, words, i, to),
+        None => false,
     }
 }
 
@@ -208,46 +75,125 @@ fn allowed(kind: AccessKind, granted: bool) -> AccessCheckResult
 fn readable(edge: bool, target: &[u8]) -> bool
     ensures { result ≡ edge || same_bytes target.now java_base }
 {
-    if same(target, b"java.base") {
-        return true;
-    }
-    edge
+    edge || same(target, b"java.base")
 }
 
-// The verdict, by the member that is the target, if one is, and by whether a read edge leads from the asker to the target.
-fn verdict(
-    set: &[u8],
-    starts: &[usize],
-    found: Found,
-    request: &[u8],
-    edge: bool,
+// Whether the asker may access the package of the target, or reflect on it; the request may override what the target says.
+#[derive(Clone, Copy)]
+struct Question<'a> {
+    request: &'a [u8],
     kind: AccessKind,
-    asker: &[u8],
-    target: &[u8],
-    pkg: &[u8],
-) -> AccessCheckResult
-    ensures { result ≡ verdict_by (is_reflection kind) (request_of request.now) (module_of set.now starts.now found) (edge || same_bytes target.now java_base) asker.now target.now pkg.now }
-{
-    if same(asker, target) {
-        return AccessCheckResult::Allowed;
+    asker: &'a [u8],
+    target: &'a [u8],
+    pkg: &'a [u8],
+}
+
+// Where the target is a member, `found` is its position.
+impl<'a> Question<'a> {
+    ghost use Rattle.access.specs.Question.{reflection, is_overridden, target_in};
+
+    // An AE of the request, or an AO, of these names.
+    #[tactic(auto, unfolding(crate::specs::Access::grants_of, records::specs::Request::request_of))]
+    fn has_override(&self) -> bool
+        ensures { result ≡ is_overridden self.now }
+    {
+        let kind = match self.kind {
+            AccessKind::Access => Kind::AddExports,
+            AccessKind::Reflection => Kind::AddOpens,
+        };
+        has_grant(self.request, kind, self.target, self.pkg, self.asker)
     }
-    if same(asker, b"ALL-UNNAMED") {
-        return allowed(
-            kind,
-            unnamed_granted(set, starts, found, request, kind, target, pkg),
-        );
+
+    // What a block's module itself says: an automatic one, for reflection also an open one, by its packages, any other by its first
+    // EX of the package, or OP.
+    #[tactic(auto, unfolding(crate::specs::Access::grants, crate::specs::Access::entries_of, records::specs::Descriptor::descriptor_of))]
+    fn grants(&self, block: &[u8]) -> bool
+        ensures { result ≡ grantsBy (reflection self.now) (descriptor_of block.now) self.now.pkg.now self.now.asker.now }
+    {
+        if is_automatic(block) {
+            return has_package(block, self.pkg);
+        }
+        match self.kind {
+            AccessKind::Access => reaches(block, Kind::Exports, self.pkg, self.asker),
+            AccessKind::Reflection => {
+                if is_open(block) {
+                    return has_package(block, self.pkg);
+                }
+                reaches(block, Kind::Opens, self.pkg, self.asker)
+            }
+        }
     }
-    if readable(edge, target) {
-        return allowed(
-            kind,
-            granted(set, starts, found, request, kind, asker, target, pkg),
-        );
+
+    // An override, or what the target says, where it is resolved.
+    #[tactic(auto, unfolding(crate::specs::Access::granted, crate::specs::Members::module_of))]
+    fn granted(&self, table: &ModuleTable, found: Option<usize>) -> bool
+        ensures { result ≡ is_overridden self.now || grantedBy (reflection self.now) (target_in table.now found) self.now.pkg.now self.now.asker.now }
+    {
+        if self.has_override() {
+            return true;
+        }
+        match found {
+            Some(i) => self.grants(table.block(i)),
+            None => false,
+        }
     }
-    AccessCheckResult::NotReadable
+
+    // Asker ALL-UNNAMED: an unresolved target is denied, and at an automatic one no override helps.
+    #[tactic(auto, unfolding(crate::specs::Access::unnamed_granted, crate::specs::Access::granted, crate::specs::Members::module_of))]
+    fn unnamed_granted(&self, table: &ModuleTable, found: Option<usize>) -> bool
+        ensures { result ≡ unnamed_granted (reflection self.now) (request_of self.now.request.now) self.now.target.now self.now.pkg.now (target_in table.now found) }
+    {
+        match found {
+            Some(i) => {
+                let b = table.block(i);
+                if is_automatic(b) {
+                    return has_package(b, self.pkg);
+                }
+                let unnamed = Question {
+                    asker: b"ALL-UNNAMED",
+                    ..*self
+                };
+                unnamed.granted(table, found)
+            }
+            None => false,
+        }
+    }
+
+    // The verdict where the target is readable.
+    #[tactic(auto, unfolding(crate::specs::Access::denied, crate::specs::Access::pick_result))]
+    fn allowed(&self, granted: bool) -> AccessCheckResult
+        ensures { result ≡ pick_result granted Allowed (deniedBy (reflection self.now)) }
+    {
+        if granted {
+            return AccessCheckResult::Allowed;
+        }
+        match self.kind {
+            AccessKind::Access => AccessCheckResult::NotExported,
+            AccessKind::Reflection => AccessCheckResult::NotOpened,
+        }
+    }
+
+    // The verdict, by whether a read edge leads from the asker to the target.
+    #[tactic(auto, unfolding(crate::specs::Members::verdict_by))]
+    fn verdict(&self, table: &ModuleTable, found: Option<usize>, edge: bool) -> AccessCheckResult
+        ensures { result ≡ verdict_by (reflection self.now) (request_of self.now.request.now) (target_in table.now found) (edge || same_bytes self.now.target.now java_base) self.now.asker.now self.now.target.now self.now.pkg.now }
+    {
+        if same(self.asker, self.target) {
+            return AccessCheckResult::Allowed;
+        }
+        if same(self.asker, b"ALL-UNNAMED") {
+            return self.allowed(self.unnamed_granted(table, found));
+        }
+        if readable(edge, self.target) {
+            return self.allowed(self.granted(table, found));
+        }
+        AccessCheckResult::NotReadable
+    }
 }
 
 // Whether the asker may access the package of the target, or reflect on it, over the words of a configuration. The set and the request
 // are checked first, then the number of words.
+#[tactic(auto, using(crate::proofs::access::Laws::answer_laws))]
 pub fn check_access(
     set: &[u8],
     request: &[u8],
@@ -256,46 +202,41 @@ pub fn check_access(
     asker: &[u8],
     target: &[u8],
     pkg: &[u8],
-) -> AccessAnswer
+) -> Result<AccessCheckResult, ModuleError>
     ensures { result ≡ check_access (is_reflection kind) set.now request.now words.now asker.now target.now pkg.now }
 {
     let mut index = [0usize; INDEX_LENGTH];
-    let checked = check_with(set, request, &mut index);
-    let answer = checked.answer;
-    match answer {
-        SetAnswer::Refused(e) => AccessAnswer::Refused(e),
-        SetAnswer::Modules(n) => {
-            if words.len() < WORDS {
-                return AccessAnswer::Refused(ModuleError::OutputTooShort(WORDS));
-            }
-            let starts = checked.starts;
-            let found = member(set, &starts, n, &index, words, target);
-            let edge = reads_name(set, &starts, n, &index, words, asker, target);
-            let v = verdict(set, &starts, found, request, edge, kind, asker, target, pkg);
-            AccessAnswer::Verdict(v)
-        }
+    let checked = check_with(set, request, &mut index)?;
+    if words.len() < WORDS {
+        return Err(ModuleError::OutputTooShort(WORDS));
     }
+    let table = ModuleTable::new(set, &checked, &index);
+    let found = member(&table, words, target);
+    let edge = reads_name(&table, words, asker, target);
+    let question = Question {
+        request,
+        kind,
+        asker,
+        target,
+        pkg,
+    };
+    Ok(question.verdict(&table, found, edge))
 }
 
 // Whether a module of the first name can read one of the second: equal names, java.base, or a read edge.
-pub fn can_read(set: &[u8], words: &[u64], from: &[u8], to: &[u8]) -> ReadAnswer
+#[tactic(auto, using(crate::proofs::access::Laws::can_laws))]
+pub fn can_read(set: &[u8], words: &[u64], from: &[u8], to: &[u8]) -> Result<bool, ModuleError>
     ensures { result ≡ can_read set.now words.now from.now to.now }
 {
     let mut index = [0usize; INDEX_LENGTH];
-    let checked = check_set_with(set, &mut index);
-    let answer = checked.answer;
-    match answer {
-        SetAnswer::Refused(e) => ReadAnswer::Refused(e),
-        SetAnswer::Modules(n) => {
-            if words.len() < WORDS {
-                return ReadAnswer::Refused(ModuleError::OutputTooShort(WORDS));
-            }
-            if same(from, to) {
-                return ReadAnswer::Reads(true);
-            }
-            let starts = checked.starts;
-            let edge = reads_name(set, &starts, n, &index, words, from, to);
-            ReadAnswer::Reads(readable(edge, to))
-        }
+    let checked = check_set_with(set, &mut index)?;
+    if words.len() < WORDS {
+        return Err(ModuleError::OutputTooShort(WORDS));
     }
+    if same(from, to) {
+        return Ok(true);
+    }
+    let table = ModuleTable::new(set, &checked, &index);
+    let edge = reads_name(&table, words, from, to);
+    Ok(readable(edge, to))
 }

@@ -1,34 +1,24 @@
 // The member of a name, over the table of a set that the check takes.
 ghost use Rattle.std.specs.Prelude.{◌≡◌};
 ghost use Rattle.records.specs.Set.{check_set};
-ghost use Rattle.records.specs.declared.set.SetAnswer.TheVariants.{Modules};
 ghost use Rattle.resolution.specs.Lookup.{Lookup};
 ghost use Rattle.access.specs.Members.{member_in};
 
-use records::finder::Found;
-use records::sorted::find_in;
 use resolution::configuration::contains;
+use resolution::module_table::ModuleTable;
 
 // The member of this name.
-pub fn member(
-    set: &[u8],
-    starts: &[usize],
-    count: usize,
-    index: &[usize],
-    words: &[u64],
-    name: &[u8],
-) -> Found
-    requires set_value { check_set set.now ≡ record { answer = Modules count; starts = starts.now } }
-    requires lookup { Lookup set.now starts.now count index.now }
-    ensures { result ≡ member_in set.now words.now name.now }
+#[tactic(auto, using(crate::proofs::access::Laws::find_laws), unfolding(crate::specs::Members::member_in, crate::specs::Members::among_members))]
+pub fn member(table: &ModuleTable, words: &[u64], name: &[u8]) -> Option<usize>
+    ensures { result ≡ member_in table.now.set.now words.now name.now }
 {
-    match find_in(set, starts, count, index, name) {
-        Found::At(i) => {
+    match table.find(name) {
+        Some(i) => {
             if contains(words, i) {
-                return Found::At(i);
+                return Some(i);
             }
-            Found::Nothing
+            None
         }
-        Found::Nothing => Found::Nothing,
+        None => None,
     }
 }

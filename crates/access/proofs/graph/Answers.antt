@@ -1,7 +1,7 @@
 -- What `graph` answers: a row of positions, or a refusal of the set, which is checked first.
 use mathlib.Core.Path.{◌≡◌, refl, sym, ap, ◌∙◌, subst}
 use mathlib.Core.Bool.{Bool, true, false, ◌&&◌, ◌||◌, and-false}
-use mathlib.Core.List.{List, [], ◌∷◌, map}
+use mathlib.Core.List.{List, map}
 use mathlib.Core.Logic.{inl, inr, ⊎_elim}
 use Prim.Native.Nat.{ℕ, ◌≤◌, ◌<◌}
 use native.Mathlib.Omega.{arith}
@@ -12,16 +12,12 @@ use lib.ListN.{length, get_or, take}
 use borrow.Author.Tests.{lt-ltb}
 use Rattle.records.specs.Bytes.{same_bytes}
 use Rattle.records.specs.Name.{all_unnamed}
-use Rattle.records.specs.Set.{name_at, modules, check_set}
+use Rattle.records.specs.Set.{name_at, modules, check_set, count_of}
 use Rattle.records.specs.Finder.{find_name, find_module}
 use Rattle.records.specs.declared.error.ModuleError.{ModuleError}
 use Rattle.records.specs.declared.error.ModuleError.TheVariants.{OutputTooShort}
-use Rattle.records.specs.declared.finder.Found.{Found}
-use Rattle.records.specs.declared.finder.Found.TheVariants.{At, Nothing}
+use Rattle.records.specs.Finder.{Found}
 use Rattle.records.specs.declared.set.Checked.{Checked}
-use Rattle.records.specs.declared.set.SetAnswer.{SetAnswer}
-use Rattle.records.specs.declared.set.SetAnswer.TheVariants.{Modules}
-use Rattle.records.specs.declared.set.SetAnswer.TheVariants as Set
 use Rattle.records.proofs.Logic.{by, true≠false, and_left}
 use Rattle.records.proofs.finder.Modules.{find-is}
 use Rattle.records.proofs.set.Blocks.{GoodSet, good-set}
@@ -30,29 +26,25 @@ use Rattle.resolution.specs.Lists.{Name}
 use Rattle.resolution.specs.Positions.{is_visible}
 use Rattle.resolution.specs.Observed.{has_member, has_edge, has_unnamed_edge}
 use Rattle.resolution.specs.Configuration.{word_count, member_bit, edge_bit, unnamed_bit}
-use Rattle.resolution.specs.Row.{holds, words, Empty, Intersected}
+use Rattle.resolution.specs.Row.{holds, words, Empty}
 use Rattle.resolution.specs.Readability.{Holding}
 use Rattle.resolution.proofs.ConfigurationWords.{with-refused, with-few, with_enough}
 use Rattle.resolution.proofs.Observed.{member-bit}
 use Rattle.resolution.proofs.Positions.{visible_in}
-use Rattle.resolution.proofs.Sets.{set-length, lookup-few, lookup-room, lookup-index}
+use Rattle.resolution.proofs.Sets.{set-length}
 use Rattle.access.specs.Access.{passes, edge_to, is_reader}
 use Rattle.access.specs.Members.{member_in}
-use Rattle.access.specs.ReadGraph.{row_length, reads_at, reads_unnamed_at, Leads, step, then, LeadsToOne, refused_graph, readers_answered, readers_of, transitive_reads, LeadsToUnnamed, LedFrom}
+use Rattle.access.specs.ReadGraph.{row_length, reads_at, reads_unnamed_at, Leads, step, then, LeadsToOne, GraphOutcome, readers_answered, readers_of, transitive_reads, LeadsToUnnamed, LedFrom}
 use Rattle.access.specs.GraphSteps.{Told, reader_at, reader_below, counts_at, counts_in, edge_counts, unnamed_counts, Masked, Onward}
-use Rattle.access.specs.declared.graph.GraphOutcome.TheVariants.{Answered, Refused}
 use Rattle.access.specs.declared.graph.GraphAnswer.{GraphAnswer}
-use Rattle.access.proofs.access.Laws.{held_of, not-held-at, found-visible, edge_to_lem, can-set, can-lookup}
+use Rattle.access.proofs.access.Laws.{held_of, not-held-at, found-visible, edge_to_lem}
 use Rattle.access.proofs.graph.Led.{led-is, transitive_refused}
 use Rattle.resolution.proofs.Words.{words_are}
+use Rattle.std.specs.Prelude.{Some, None, Ok, Err}
 
 -- ---- the answers
 
-pub refuse-is : (e : ModuleError) → record { outcome = Refused e; row = 0 ∷ 0 ∷ 0 ∷ 0 ∷ 0 ∷ 0 ∷ 0 ∷ 0 ∷ []; unnamed = false } ≡ refused_graph e
-unfolding refused_graph
-refuse-is e = refl
-
-pub tell_is : (row : List ℕ) (u : Bool) → length row ≡ 8 → ((i : ℕ) → Fits w64 (get_or row i 0)) → Told row u (record { outcome = Answered; row = row; unnamed = u })
+pub tell_is : (row : List ℕ) (u : Bool) → length row ≡ 8 → ((i : ℕ) → Fits w64 (get_or row i 0)) → Told row u (record { row = row; unnamed = u })
 tell_is row u l f = record { is = refl; by_words = λ p h. words_are p row row_length l (λ i. (f i).fits) (λ k b. h k (omega arith)) }
 
 -- the row of an answer is given by the positions that it holds
@@ -81,11 +73,7 @@ module _ (r₁ r₂ : ℕ → ℕ → Bool) (u₁ u₂ : ℕ → Bool) (same : (
   pub one-over : (i : ℕ) → LeadsToOne r₁ u₁ i → LeadsToOne r₂ u₂ i
   one-over i x = ⊎_elim (λ y. inl (sym (also i) ∙ y)) (λ y. inr (y.0, leads-over i y.0 y.1, sym (also y.0) ∙ y.2)) x
 
--- the members among the modules that are not hidden
-pub members-among : (c seen all own : List ℕ) → Holding all (member_bit c) → Intersected seen all own → Holding own (counts_in (holds seen) c)
-unfolding counts_in
-members-among c seen all own ha ho = record { each = λ k. ho.both k ∙ rw (ha.each k) }
-
+-- the members whose modules are not hidden
 pub members_are : (s c seen own : List ℕ) → Holding seen (is_visible (modules s)) → Holding own (counts_in (holds seen) c) → Holding own (has_member (modules s) c)
 unfolding has_member counts_in
 members_are s c seen own hs ho = record { each = λ k. ho.each k ∙ rw (hs.each k) }
@@ -120,72 +108,77 @@ module _ (s : List ℕ) (n : ℕ) (t : List ℕ) (good : GoodSet s n t) (c seen 
   unfolding unnamed_counts reads_unnamed_at has_unnamed_edge has_member
   unnamed-is i = rw (counts-is i) (by (is_visible (modules s) i) (λ y. rw y) (λ y. rw y))
 
-pub visible-few : (s : List ℕ) (n : ℕ) (t : List ℕ) → check_set s ≡ record { answer = Modules n; starts = t } → n ≤ 512
+pub visible-few : (s : List ℕ) (n : ℕ) (t : List ℕ) → check_set s ≡ Ok (record { count = n; starts = t }) → n ≤ 512
 visible-few s n t e = (good-set s n t e).few
 
 -- ---- the set is checked first
 
-module _ (s : List ℕ) (c : List ℕ) (y : Name) (k : Checked) (ek : k ≡ check_set s) where
-  answer-is : (a : SetAnswer) → k.answer ≡ a → (check_set s).answer ≡ a
-  answer-is a h = ap (λ (z : Checked). z.answer) (sym ek) ∙ h
-
-  pub readers-refused : (e : ModuleError) (r : GraphAnswer) → k.answer ≡ Set.Refused e → r ≡ refused_graph e → r ≡ readers_of s c y
+module _ (s : List ℕ) (c : List ℕ) (y : Name) where
+  pub readers-refused : (e : ModuleError) (r : GraphOutcome) → Err e ≡ check_set s → r ≡ Err e → r ≡ readers_of s c y
   unfolding readers_of readers_answered
-  readers-refused e r h er = er ∙ sym (ap (readers_answered s c y) (with-refused c (check_set s).answer e (answer-is (Set.Refused e) h)))
+  readers-refused e r h er = er ∙ sym (ap (readers_answered s c y) (with-refused c (count_of (check_set s)) e (ap count_of (sym h))))
 
-  pub readers-short : (n : ℕ) (r : GraphAnswer) → k.answer ≡ Modules n → length c < 4616 → r ≡ refused_graph (OutputTooShort 4616) → r ≡ readers_of s c y
-  unfolding readers_of readers_answered
-  readers-short n r h l er = er ∙ sym (ap (readers_answered s c y) (with-few c (check_set s).answer n (answer-is (Modules n) h) l))
+  pub reads-refused : (e : ModuleError) (r : GraphOutcome) → Err e ≡ check_set s → r ≡ Err e → r ≡ transitive_reads s c y
+  reads-refused e r h er = er ∙ sym (transitive_refused s c y e (with-refused c (count_of (check_set s)) e (ap count_of (sym h))))
 
-  pub readers-told : (n : ℕ) (f : Found) (asked : Bool) (own row : List ℕ) (r : GraphAnswer) → k.answer ≡ Modules n → 4616 ≤ length c
-      → f ≡ find_name (map (name_at s) (take n k.starts)) y 0 → asked ≡ same_bytes y all_unnamed
-      → Holding own (has_member (modules s) c) → Holding row (reader_below n own c f asked) → Told row false r → r ≡ readers_of s c y
+  module _ (k : Checked) (ek : Ok k ≡ check_set s) (l : length c < 4616) where
+    pub readers-short : Err (OutputTooShort 4616) ≡ readers_of s c y
+    unfolding readers_of readers_answered
+    readers-short = sym (ap (readers_answered s c y) (with-few c (count_of (check_set s)) k.count (ap count_of (sym ek)) l))
+
+    pub reads_short : Err (OutputTooShort 4616) ≡ transitive_reads s c y
+    reads_short = sym (transitive_refused s c y (OutputTooShort 4616) (with-few c (count_of (check_set s)) k.count (ap count_of (sym ek)) l))
+
+  -- what is told over the table of the set
+  pub readers-over : (t : List ℕ) (r : GraphAnswer) → t ≡ s → Ok r ≡ readers_of t c y → Ok r ≡ readers_of s c y
+  readers-over t r e h = cc
+
+  pub reads-over : (t : List ℕ) (r : GraphAnswer) → t ≡ s → Ok r ≡ transitive_reads t c y → Ok r ≡ transitive_reads s c y
+  reads-over t r e h = cc
+
+pub ruleset checked_laws = (indexed-none, readers-refused, readers-short, readers-over, reads-refused, reads_short, reads-over)
+
+-- ---- of a set that the check takes
+
+module _ (s : List ℕ) (n : ℕ) (t : List ℕ) (e : check_set s ≡ Ok (record { count = n; starts = t })) (c : List ℕ) (enough : word_count ≤ length c) (y : Name) where
+  good : GoodSet s n t
+  good = good-set s n t e
+
+  pub readers_in : (f : Found) (asked : Bool) (own row : List ℕ) (r : GraphAnswer) → f ≡ find_name (map (name_at s) (take n t)) y 0 → asked ≡ same_bytes y all_unnamed
+      → Holding own (has_member (modules s) c) → Holding row (reader_below n own c f asked) → Told row false r → Ok r ≡ readers_of s c y
   unfolding readers_of readers_answered reader_below reader_at is_reader has_member
-  readers-told n f asked own row r h enough ef ea ho w t =
-      t.is ∙ ap (λ (x : List ℕ). record { outcome = Answered; row = x; unnamed = false }) (t.by_words (is_reader s c y) each)
-      ∙ sym (ap (readers_answered s c y) (with_enough c (check_set s).answer n (answer-is (Modules n) h) enough))
+  readers_in f asked own row r ef ea ho w x =
+      ap {B = GraphOutcome} Ok (x.is ∙ ap {B = GraphAnswer} (λ (v : List ℕ). record { row = v; unnamed = false }) (x.by_words (is_reader s c y) each))
+      ∙ sym (ap (readers_answered s c y) (with_enough c (count_of (check_set s)) n (ap count_of e) enough))
     where
-      good : GoodSet s n k.starts
-      good = good-set s n k.starts (can-set s k ek n h)
-
       turned : (j : ℕ) → (b : Bool) → is_visible (modules s) j ≡ b → (m x z : Bool) → (b ≡ true → z ≡ x) → ltb j n && ((b && m) && x) ≡ (b && m) && z
-      turned j true e m x z q = rw (lt-ltb j n (omega (arith, visible_in (modules s) j e, set-length s n k.starts good)), q refl)
-      turned j false e m x z q = and-false (ltb j n)
+      turned j true v m x z q = rw (lt-ltb j n (omega (arith, visible_in (modules s) j v, set-length s n t good)), q refl)
+      turned j false v m x z q = and-false (ltb j n)
 
       each : (j : ℕ) → j < 512 → holds row j ≡ is_reader s c y j
       each j l = w.each j
-          ∙ rw (ef ∙ find-is s n k.starts good y, ea, ho.each j)
+          ∙ rw (ef ∙ find-is s n t good y, ea, ho.each j)
           (turned j (is_visible (modules s) j) refl (member_bit c j)
           (passes (edge_bit c j) (find_module s y) || (same_bytes y all_unnamed && unnamed_bit c j)) (edge_to s c y j) (λ v. edge_to_lem s c y j v))
 
-  pub reads-refused : (e : ModuleError) (r : GraphAnswer) → k.answer ≡ Set.Refused e → r ≡ refused_graph e → r ≡ transitive_reads s c y
-  reads-refused e r h er = er ∙ sym (transitive_refused s c y e (with-refused c (check_set s).answer e (answer-is (Set.Refused e) h)))
-
-  pub reads_short : (n : ℕ) (r : GraphAnswer) → k.answer ≡ Modules n → length c < 4616 → r ≡ refused_graph (OutputTooShort 4616) → r ≡ transitive_reads s c y
-  reads_short n r h l er = er ∙ sym (transitive_refused s c y (OutputTooShort 4616) (with-few c (check_set s).answer n (answer-is (Modules n) h) l))
-
-  module _ (n : ℕ) (h : k.answer ≡ Modules n) (enough : 4616 ≤ length c) (m : Found) (em : m ≡ member_in s c y) where
-    good : GoodSet s n k.starts
-    good = good-set s n k.starts (can-set s k ek n h)
-
+  module _ (m : Found) (em : m ≡ member_in s c y) where
     module _ (seen own : List ℕ) (hs : Holding seen (is_visible (modules s))) (ho : Holding own (counts_in (holds seen) c)) where
-      pub reads_masked : Masked n seen own
-      reads_masked = masked s n k.starts good c seen own hs ho
+      pub in-masked : Masked n seen own
+      in-masked = masked s n t good c seen own hs ho
 
-      pub reads-counts : (i : ℕ) → m ≡ At i → counts_at (holds seen) own i ≡ true
+      pub in-counts : (i : ℕ) → m ≡ Some i → counts_at (holds seen) own i ≡ true
       unfolding member_in
-      reads-counts i ei =
+      in-counts i ei =
           let p = held_of c (find_module s y) i (sym em ∙ ei) in
-          counts-is s n k.starts good c seen own hs ho i ∙ member-bit (modules s) c i (found-visible s y i p.0) ∙ p.1
+          counts-is s n t good c seen own hs ho i ∙ member-bit (modules s) c i (found-visible s y i p.0) ∙ p.1
 
-    answered : (r : GraphAnswer) → LedFrom s c y r → r ≡ transitive_reads s c y
-    answered r l = led-is s c y n (with_enough c (check_set s).answer n (answer-is (Modules n) h) enough) r l
+    answered : (r : GraphAnswer) → LedFrom s c y r → Ok r ≡ transitive_reads s c y
+    answered r l = led-is s c y n (with_enough c (count_of (check_set s)) n (ap count_of e) enough) r l
 
-    pub reads-told : (seen own : List ℕ) → Holding seen (is_visible (modules s)) → Holding own (counts_in (holds seen) c)
-        → (i : ℕ) (r : GraphAnswer) → m ≡ At i → Onward (holds seen) own c i r → r ≡ transitive_reads s c y
+    pub in_told : (seen own : List ℕ) → Holding seen (is_visible (modules s)) → Holding own (counts_in (holds seen) c)
+        → (i : ℕ) (r : GraphAnswer) → m ≡ Some i → Onward (holds seen) own c i r → Ok r ≡ transitive_reads s c y
     unfolding member_in
-    reads-told seen own hs ho i r ei o = answered r (record {
-      outcome = o.outcome;
+    in_told seen own hs ho i r ei o = answered r (record {
       row_words = o.row_words;
       row_sound = λ j e. (i, found, leads-over by_code (reads_at s c) un-code (reads_unnamed_at s c) rs us i j (o.row_sound j e));
       row_complete = λ a j e f. o.row_complete j (leads-over (reads_at s c) by_code (reads_unnamed_at s c) un-code back_rs back-us i j (subst (λ (x : ℕ). Leads (reads_at s c) x j) (same a e) f));
@@ -200,10 +193,10 @@ module _ (s : List ℕ) (c : List ℕ) (y : Name) (k : Checked) (ek : k ≡ chec
         un-code = unnamed_counts (holds seen) own c
 
         rs : (a b : ℕ) → by_code a b ≡ reads_at s c a b
-        rs a b = reads-is s n k.starts good c seen own hs ho a b
+        rs a b = reads-is s n t good c seen own hs ho a b
 
         us : (a : ℕ) → un-code a ≡ reads_unnamed_at s c a
-        us a = unnamed-is s n k.starts good c seen own hs ho a
+        us a = unnamed-is s n t good c seen own hs ho a
 
         back_rs : (a b : ℕ) → reads_at s c a b ≡ by_code a b
         back_rs a b = sym (rs a b)
@@ -211,55 +204,28 @@ module _ (s : List ℕ) (c : List ℕ) (y : Name) (k : Checked) (ek : k ≡ chec
         back-us : (a : ℕ) → reads_unnamed_at s c a ≡ un-code a
         back-us a = sym (us a)
 
-        found : find_module s y ≡ At i
+        found : find_module s y ≡ Some i
         found = (held_of c (find_module s y) i (sym em ∙ ei)).0
 
-        same : (a : ℕ) → find_module s y ≡ At a → a ≡ i
-        same a e = let q : At a ≡ At i = sym e ∙ found in cc
+        same : (a : ℕ) → find_module s y ≡ Some a → a ≡ i
+        same a e = let q : Some a ≡ Some i = sym e ∙ found in cc
 
-    pub reads_none : (row : List ℕ) (r : GraphAnswer) → m ≡ Nothing → Empty row → Told row false r → r ≡ transitive_reads s c y
+    pub in-none : (row : List ℕ) (r : GraphAnswer) → m ≡ None → Empty row → Told row false r → Ok r ≡ transitive_reads s c y
     unfolding member_in
-    reads_none row r en w t = answered r (record {
-      outcome = ap (λ (x : GraphAnswer). x.outcome) t.is;
-      row_words = own-words row false r t;
-      row_sound = λ j e. true≠false (subst (λ (x : List ℕ). holds x j ≡ true) (ap (λ (x : GraphAnswer). x.row) t.is) e) (w.none j);
+    in-none row r en w told = answered r (record {
+      row_words = own-words row false r told;
+      row_sound = λ j e. true≠false (subst (λ (x : List ℕ). holds x j ≡ true) (ap (λ (x : GraphAnswer). x.row) told.is) e) (w.none j);
       row_complete = λ a j e f. absurd (no-path a j e f);
-      unnamed_sound = λ e. true≠false e (ap (λ (x : GraphAnswer). x.unnamed) t.is);
+      unnamed_sound = λ e. true≠false e (ap (λ (x : GraphAnswer). x.unnamed) told.is);
       unnamed_complete = λ a e x. absurd (⊎_elim (λ z. no-counts a e (unnamed-counts s c a z)) (λ z. no-path a z.0 e z.1) x);
     })
       where
-        no-counts : (a : ℕ) → find_module s y ≡ At a → has_member (modules s) c a ≡ true → ⊥
+        no-counts : (a : ℕ) → find_module s y ≡ Some a → has_member (modules s) c a ≡ true → ⊥
         no-counts a e h₂ = true≠false (sym (member-bit (modules s) c a (found-visible s y a e)) ∙ h₂) (not-held-at c (find_module s y) a e (sym em ∙ en))
 
-        no-path : (a j : ℕ) → find_module s y ≡ At a → Leads (reads_at s c) a j → ⊥
+        no-path : (a j : ℕ) → find_module s y ≡ Some a → Leads (reads_at s c) a j → ⊥
         no-path a j e f = no-counts a e (leads-counts s c a j f)
 
-pub ruleset checked-laws = (indexed-none, can-set, can-lookup, readers-refused, readers-short, reads-refused, reads_short)
-
--- and of a set that the check takes
-
-module _ (s : List ℕ) (n : ℕ) (t : List ℕ) (e : check_set s ≡ record { answer = Modules n; starts = t }) (c : List ℕ) (enough : word_count ≤ length c) (y : Name) where
-  abbrev taken : Checked
-  taken = record { answer = Modules n; starts = t }
-
-  pub readers_in : (f : Found) (asked : Bool) (own row : List ℕ) (r : GraphAnswer) → f ≡ find_name (map (name_at s) (take n t)) y 0 → asked ≡ same_bytes y all_unnamed
-      → Holding own (has_member (modules s) c) → Holding row (reader_below n own c f asked) → Told row false r → r ≡ readers_of s c y
-  readers_in f asked own row r ef ea ho w x = readers-told s c y taken (sym e) n f asked own row r refl enough ef ea ho w x
-
-  module _ (m : Found) (em : m ≡ member_in s c y) where
-    pub in-none : (row : List ℕ) (r : GraphAnswer) → m ≡ Nothing → Empty row → Told row false r → r ≡ transitive_reads s c y
-    in-none row r en w x = reads_none s c y taken (sym e) n refl enough m em row r en w x
-
-    module _ (seen own : List ℕ) (hs : Holding seen (is_visible (modules s))) (ho : Holding own (counts_in (holds seen) c)) where
-      pub in-masked : Masked n seen own
-      in-masked = reads_masked s c y taken (sym e) n refl enough m em seen own hs ho
-
-      pub in-counts : (i : ℕ) → m ≡ At i → counts_at (holds seen) own i ≡ true
-      in-counts i ei = reads-counts s c y taken (sym e) n refl enough m em seen own hs ho i ei
-
-      pub in_told : (i : ℕ) (r : GraphAnswer) → m ≡ At i → Onward (holds seen) own c i r → r ≡ transitive_reads s c y
-      in_told i r ei o = reads-told s c y taken (sym e) n refl enough m em seen own hs ho i r ei o
-
-pub ruleset readers_in_laws = (visible-few, lookup-few, lookup-room, lookup-index, readers_in)
+pub ruleset readers_in_laws = (visible-few, readers_in)
 
 pub ruleset reads_in_laws = (in-none, in-masked, in-counts, in_told)

@@ -1,15 +1,16 @@
 -- What read edges lead to: the sweeps over the members marked, until one adds nothing, and the readers of ALL-UNNAMED among them.
-use mathlib.Core.Path.{◌≡◌, sym, ap, ◌∙◌, subst}
-use mathlib.Core.Bool.{Bool, true, false, not, ◌&&◌, ◌||◌, or-false}
+use mathlib.Core.Path.{◌≡◌, refl, sym, ap, ◌∙◌, subst}
+use mathlib.Core.Bool.{Bool, true, ◌&&◌, ◌||◌, or-false, or_assoc}
 use mathlib.Core.List.{List}
 use mathlib.Core.Logic.{inl, inr, ⊎_elim}
-use Prim.Native.Nat.{ℕ, ◌+◌, ◌-◌, ◌≤◌, ◌<◌}
+use Prim.Native.Nat.{ℕ, zero, suc, ◌+◌, ◌-◌, ◌≤◌, ◌<◌}
 use native.Mathlib.Omega.{arith}
 use lib.Dec.{eqb, ltb}
-use borrow.Author.Tests.{eqb-true, ltb-true, ltb-false, lt-ltb, not-true, not-false}
+use borrow.Author.Tests.{eqb-true, ltb-true, ltb-false, lt-ltb}
+use Rattle.std.specs.List.{list_any, range_with_len}
 use Rattle.records.proofs.Logic.{by, true≠false, and_left, and_right, and_both, and_split, or_left, or_right, or_cases}
 use Rattle.resolution.specs.Configuration.{edge_bit, unnamed_bit}
-use Rattle.resolution.specs.Row.{holds, size, United, Intersected}
+use Rattle.resolution.specs.Row.{holds, size, Intersected}
 use Rattle.resolution.specs.Readability.{Holding}
 use Rattle.resolution.proofs.configuration.Laws.{reads-target}
 use Rattle.resolution.proofs.row.Counts.{count-le, count-mono, count-strict}
@@ -17,30 +18,12 @@ use Rattle.access.specs.ReadGraph.{any_below, Leads, step, then, LeadsToOne}
 use Rattle.access.specs.GraphSteps.{Told, counts_at, edge_counts, unnamed_counts, Masked, spread_at, onward_at, From, at, on, Swept, Gathered, unnamed_in, Onward}
 use Rattle.access.specs.declared.graph.GraphAnswer.{GraphAnswer}
 use Rattle.access.proofs.graph.Answers.{own-words}
-use Rattle.access.proofs.graph.Led.{any_at, any_of, none_of}
+use Rattle.access.proofs.graph.Led.{any_at, any_of}
 use Rattle.access.proofs.graph.Rows.{before}
 
 -- an edge leads to a position below 512
 target_below : (g : List ℕ) (i j : ℕ) → edge_bit g i j ≡ true → j < 512
 target_below g i j e = by (ltb j 512) (λ h. ltb-true j 512 h) (λ h. true≠false e (sym (reads-target g i j (ltb-false j 512 h))))
-
--- ---- what one position reads
-
-module _ (row ws g : List ℕ) (i : ℕ) (a : Bool) (ea : a ≡ holds row i) where
-  pub spread-other : not a ≡ true → Holding row (spread_at row ws g i)
-  unfolding spread_at
-  spread-other y = record { each = λ j. sym (rw (← ea, not-true a y) (or-false (holds row j))) }
-
-  module _ (y : not a ≡ false) (b : Bool) (eb : b ≡ holds ws i) where
-    pub spread-no-member : not b ≡ true → Holding row (spread_at row ws g i)
-    unfolding spread_at
-    spread-no-member z = record { each = λ j. sym (rw (← ea, not-false a y, ← eb, not-true b z) (or-false (holds row j))) }
-
-    pub spread_row : (own after : List ℕ) → not b ≡ false → Holding own (edge_bit g i) → United row own after → Holding after (spread_at row ws g i)
-    unfolding spread_at
-    spread_row own after z h u = record { each = λ j. u.either j ∙ rw (h.each j) (sym (rw (← ea, not-false a y, ← eb, not-false b z))) }
-
-pub ruleset spread-laws = (spread-other, spread-no-member, spread_row)
 
 -- ---- a sweep
 
@@ -123,49 +106,21 @@ module _ (n : ℕ) (ws g row out : List ℕ) (s : GatherAt n ws g row out) (afte
     pub gather-end : a ≡ b → Gathered n ws g row out
     gather-end q = record { sound = s.sound; complete = λ j f. all q j f }
 
-pub ruleset gather-laws = (gather-start, gather-more, gather-less, gather-end)
+pub ruleset gather_laws = (gather-start, gather-more, gather-less, gather-end)
 
 -- ---- readers of ALL-UNNAMED
 
-module _ (row ws g : List ℕ) (k : ℕ) (a : Bool) (ea : a ≡ holds row k) where
-  pub unnamed-other : not a ≡ true → false ≡ unnamed_in row ws g k
-  unfolding unnamed_in
-  unnamed-other y = sym (rw (← ea, not-true a y))
+-- the positions below n, one after another
+any-next : (p : ℕ → Bool) (a n : ℕ) → list_any p (range_with_len a (suc n)) ≡ list_any p (range_with_len a n) || p (a + n)
+any-next p a zero = let e : a + 0 ≡ a = omega arith in rw e (or-false (p a))
+any-next p a (suc n) =
+    let e : a + suc n ≡ (a + 1) + n = omega arith in
+    ap (λ (b : Bool). p a || b) (any-next p (a + 1) n) ∙ rw e (sym (or_assoc (p a) (list_any p (range_with_len (a + 1) n)) (p ((a + 1) + n))))
 
-  module _ (y : not a ≡ false) (b : Bool) (eb : b ≡ holds ws k) where
-    pub unnamed-no-member : not b ≡ true → false ≡ unnamed_in row ws g k
-    unfolding unnamed_in
-    unnamed-no-member z = sym (rw (← ea, not-false a y, ← eb, not-true b z))
-
-    pub unnamed-member : (r : Bool) → not b ≡ false → r ≡ unnamed_bit g k → r ≡ unnamed_in row ws g k
-    unfolding unnamed_in
-    unnamed-member r z er = er ∙ sym (rw (← ea, not-false a y, ← eb, not-false b z))
-
-pub ruleset unnamed-laws = (unnamed-other, unnamed-no-member, unnamed-member)
-
--- none below k
-pub record NoneAt (row ws g : List ℕ) (k : ℕ) : Type 0 where
-  pub none : (j : ℕ) → j < k → unnamed_in row ws g j ≡ false
-
-pub any-start : (row ws g : List ℕ) → NoneAt row ws g 0
-any-start row ws g = record { none = λ j l. absurd (omega arith) }
-
-module _ (row ws g : List ℕ) (n k : ℕ) (h : NoneAt row ws g k) where
-  pub any-end : n ≤ k → false ≡ any_below (unnamed_in row ws g) n
-  any-end l = sym (none_of (unnamed_in row ws g) n (λ j b. h.none j (omega arith)))
-
-  module _ (r : Bool) (er : r ≡ unnamed_in row ws g k) where
-    pub any_here : k < n → r ≡ true → true ≡ any_below (unnamed_in row ws g) n
-    any_here l y = sym (any_at (unnamed_in row ws g) n k l (sym er ∙ y))
-
-    pub any-more : r ≡ false → NoneAt row ws g (k + 1)
-    any-more y = record {
-      none = λ j b. by (eqb j k)
-          (λ z. subst (λ (x : ℕ). unnamed_in row ws g x ≡ false) (sym (eqb-true j k z)) (sym er ∙ y))
-          (λ z. h.none j (before j k b z));
-    }
-
-pub ruleset any_laws = (any-start, any-end, any_here, any-more)
+pub any_is : (p : ℕ → Bool) (n : ℕ) → list_any p (range_with_len 0 n) ≡ any_below p n
+unfolding any_below
+any_is p zero = refl
+any_is p (suc n) = let e : 0 + n ≡ n = omega arith in any-next p 0 n ∙ rw (any_is p n, e)
 
 -- ---- what a member leads to
 
@@ -225,7 +180,6 @@ module _ (n : ℕ) (seen ws g : List ℕ) (i : ℕ) (mask : Masked n seen ws) (c
   pub onward-is : (low : List ℕ) (last : Bool) (r : GraphAnswer) → Intersected seen row low
       → last ≡ unnamed_bit g i || any_below (unnamed_in row ws g) n → Told low last r → Onward (holds seen) ws g i r
   onward-is low last r w el t = record {
-    outcome = ap (λ (x : GraphAnswer). x.outcome) t.is;
     row_words = own-words low last r t;
     row_sound = λ k e. low-out low w k (subst (λ (x : List ℕ). holds x k ≡ true) er e);
     row_complete = λ k f. subst (λ (x : List ℕ). holds x k ≡ true) (sym er) (low_in low w k f);

@@ -9,13 +9,11 @@ use native.Mathlib.Omega.{arith}
 use lib.Dec.{ltb}
 use lib.ListN.{replicate}
 use borrow.Author.Tests.{ltb-true, ltb-false}
-use Rattle.records.specs.Set.{modules, check_set}
+use Rattle.records.specs.Set.{modules, check_set, count_of, starts_in}
 use Rattle.records.specs.Finder.{find_module}
 use Rattle.records.specs.declared.error.ModuleError.{ModuleError}
-use Rattle.records.specs.declared.finder.Found.{Found}
-use Rattle.records.specs.declared.finder.Found.TheVariants.{At, Nothing}
-use Rattle.records.specs.declared.set.SetAnswer.{SetAnswer}
-use Rattle.records.specs.declared.set.SetAnswer.TheVariants as Set
+use Rattle.records.specs.Finder.{Found}
+use Rattle.records.specs.Set.{CountAnswer}
 use Rattle.records.proofs.Logic.{by, clash, true≠false, and_left, and_right, and_both, and_split, or_left, or_right, or_cases}
 use Rattle.records.proofs.set.Blocks.{GoodSet, good-set}
 use Rattle.resolution.specs.Lists.{Name}
@@ -30,10 +28,10 @@ use Rattle.resolution.proofs.WordBits.{holds-words}
 use Rattle.resolution.proofs.Words.{words-over}
 use Rattle.resolution.proofs.row.Counts.{count-le, count-strict}
 use Rattle.resolution.proofs.row.Laws.{holds-out, empty-zeros}
-use Rattle.access.specs.ReadGraph.{row_length, reads_at, reads_unnamed_at, any_below, widened, widened_times, led_row, Leads, step, then, refused_graph, led_found, transitive_answered, transitive_reads, LeadsToUnnamed, LedFrom, TransitiveReads}
-use Rattle.access.specs.declared.graph.GraphOutcome.{GraphOutcome}
+use Rattle.access.specs.ReadGraph.{row_length, reads_at, reads_unnamed_at, any_below, widened, widened_times, led_row, Leads, step, then, GraphOutcome, led_found, transitive_answered, transitive_reads, LeadsToUnnamed, LedFrom, TransitiveReads}
 use Rattle.access.specs.declared.graph.GraphAnswer.{GraphAnswer}
-use Rattle.access.proofs.access.Laws.{can-set}
+use Rattle.records.proofs.request.Taken.{answer-taken}
+use Rattle.std.specs.Prelude.{Some, None, Ok, Err}
 
 -- ---- some number below n
 
@@ -201,12 +199,12 @@ zeros : replicate row_length 0 ≡ words (holds (replicate row_length 0)) row_le
 unfolding words words_from bits_from one holds bit
 zeros = refl
 
-module _ (s : List ℕ) (c : List ℕ) (x : Name) (n : ℕ) (h : with_words c (check_set s).answer ≡ Set.Modules n) where
-  good : GoodSet s n (check_set s).starts
-  good = good-set s n (check_set s).starts (can-set s (check_set s) refl n (with-taken c (check_set s).answer n h).0)
+module _ (s : List ℕ) (c : List ℕ) (x : Name) (n : ℕ) (h : with_words c (count_of (check_set s)) ≡ Ok n) where
+  good : GoodSet s n (starts_in (check_set s))
+  good = good-set s n (starts_in (check_set s)) (answer-taken (check_set s) n (with-taken c (count_of (check_set s)) n h).0)
 
   seen_low : (k : ℕ) → is_visible (modules s) k ≡ true → k < n
-  seen_low k v = omega (arith, visible_in (modules s) k v, set-length s n (check_set s).starts good)
+  seen_low k v = omega (arith, visible_in (modules s) k v, set-length s n (starts_in (check_set s)) good)
 
   -- an edge leads to a module that is not hidden
   target-low : (j k : ℕ) → reads_at s c j k ≡ true → k < n
@@ -243,8 +241,7 @@ module _ (s : List ℕ) (c : List ℕ) (x : Name) (n : ℕ) (h : with_words c (c
 
   found-led : (f : Found) → find_module s x ≡ f → LedFrom s c x (led_found s c n f)
   unfolding led_found
-  found-led (At i) e = record {
-    outcome = refl;
+  found-led (Some i) e = record {
     row_words = (row_low i).by_words;
     row_sound = λ k y. (i, e, row_out i k y);
     row_complete = λ a k ea f. row_in i k (subst (λ (z : ℕ). Leads (reads_at s c) z k) (same a ea) f);
@@ -252,10 +249,9 @@ module _ (s : List ℕ) (c : List ℕ) (x : Name) (n : ℕ) (h : with_words c (c
     unnamed_complete = λ a ea f. last_in i (subst (λ (z : ℕ). LeadsToUnnamed s c z) (same a ea) f);
   }
     where
-      same : (a : ℕ) → find_module s x ≡ At a → a ≡ i
-      same a ea = let q : At a ≡ At i = sym ea ∙ e in cc
-  found-led Nothing e = record {
-    outcome = refl;
+      same : (a : ℕ) → find_module s x ≡ Some a → a ≡ i
+      same a ea = let q : Some a ≡ Some i = sym ea ∙ e in cc
+  found-led None e = record {
     row_words = zeros;
     row_sound = λ k y. true≠false y ((empty-zeros row_length).none k);
     row_complete = λ a k ea f. absurd (none a ea);
@@ -263,12 +259,12 @@ module _ (s : List ℕ) (c : List ℕ) (x : Name) (n : ℕ) (h : with_words c (c
     unnamed_complete = λ a ea f. absurd (none a ea);
   }
     where
-      none : (a : ℕ) → find_module s x ≡ At a → ⊥
-      none a ea = let q : At a ≡ Nothing = sym ea ∙ e in clash (cc)
+      none : (a : ℕ) → find_module s x ≡ Some a → ⊥
+      none a ea = let q : Some a ≡ None = sym ea ∙ e in clash (cc)
 
-  pub answer-led : LedFrom s c x (transitive_reads s c x)
+  pub answer-led : (a : GraphAnswer) × (transitive_reads s c x ≡ Ok a) × LedFrom s c x a
   unfolding transitive_reads transitive_answered
-  answer-led = subst (λ (a : SetAnswer). LedFrom s c x (transitive_answered s c x a)) (sym h) (found-led (find_module s x) refl)
+  answer-led = (led_found s c n (find_module s x), ap (transitive_answered s c x) h, found-led (find_module s x) refl)
 
 -- ---- and no other
 
@@ -277,9 +273,8 @@ each_way true b f g = sym (f refl)
 each_way false true f g = g refl
 each_way false false f g = refl
 
-parts : (o₁ o₂ : GraphOutcome) (w₁ w₂ : List ℕ) (u₁ u₂ : Bool) → o₁ ≡ o₂ → w₁ ≡ w₂ → u₁ ≡ u₂
-    → ◌≡◌ {A = GraphAnswer} (record { outcome = o₁; row = w₁; unnamed = u₁ }) (record { outcome = o₂; row = w₂; unnamed = u₂ })
-parts o₁ o₂ w₁ w₂ u₁ u₂ p q e = rw (p, q, e)
+parts : (w₁ w₂ : List ℕ) (u₁ u₂ : Bool) → w₁ ≡ w₂ → u₁ ≡ u₂ → ◌≡◌ {A = GraphAnswer} (record { row = w₁; unnamed = u₁ }) (record { row = w₂; unnamed = u₂ })
+parts w₁ w₂ u₁ u₂ q e = rw (q, e)
 
 module _ (s : List ℕ) (c : List ℕ) (x : Name) (a b : GraphAnswer) (l : LedFrom s c x a) (m : LedFrom s c x b) where
   same-held : (k : ℕ) → holds a.row k ≡ holds b.row k
@@ -296,26 +291,26 @@ module _ (s : List ℕ) (c : List ℕ) (x : Name) (a b : GraphAnswer) (l : LedFr
       (λ y. let f = m.unnamed_sound y in l.unnamed_complete f.0 f.1 f.2)
 
   pub led-same : a ≡ b
-  led-same = parts a.outcome b.outcome a.row b.row a.unnamed b.unnamed (l.outcome ∙ sym m.outcome) same_row same-last
+  led-same = parts a.row b.row a.unnamed b.unnamed same_row same-last
 
 -- of a set that the check takes
-pub led-is : (s : List ℕ) (c : List ℕ) (x : Name) (n : ℕ) → with_words c (check_set s).answer ≡ Set.Modules n → (r : GraphAnswer) → LedFrom s c x r → r ≡ transitive_reads s c x
-led-is s c x n h r l = led-same s c x r (transitive_reads s c x) l (answer-led s c x n h)
+pub led-is : (s : List ℕ) (c : List ℕ) (x : Name) (n : ℕ) → with_words c (count_of (check_set s)) ≡ Ok n → (r : GraphAnswer) → LedFrom s c x r → Ok r ≡ transitive_reads s c x
+led-is s c x n h r l = let a = answer-led s c x n h in ap Ok (led-same s c x r a.0 l a.2) ∙ sym a.1
 
 -- ---- of any set
 
 -- the answer tells what one edge or more lead to, and no other answer does
 module _ (s : List ℕ) (c : List ℕ) (x : Name) where
-  pub transitive_refused : (e : ModuleError) → with_words c (check_set s).answer ≡ Set.Refused e → transitive_reads s c x ≡ refused_graph e
+  pub transitive_refused : (e : ModuleError) → with_words c (count_of (check_set s)) ≡ Err e → transitive_reads s c x ≡ Err e
   unfolding transitive_reads transitive_answered
   transitive_refused e h = ap (transitive_answered s c x) h
 
   pub transitive_led : TransitiveReads s c x (transitive_reads s c x)
   transitive_led = record { refused = transitive_refused; answered = answer-led s c x }
 
-  pub transitive_only : (r : GraphAnswer) → TransitiveReads s c x r → r ≡ transitive_reads s c x
-  transitive_only r t = go (with_words c (check_set s).answer) refl
+  pub transitive_only : (r : GraphOutcome) → TransitiveReads s c x r → r ≡ transitive_reads s c x
+  transitive_only r t = go (with_words c (count_of (check_set s))) refl
     where
-      go : (a : SetAnswer) → with_words c (check_set s).answer ≡ a → r ≡ transitive_reads s c x
-      go (Set.Refused e) h = t.refused e h ∙ sym (transitive_refused e h)
-      go (Set.Modules n) h = led-is s c x n h r (t.answered n h)
+      go : (a : CountAnswer) → with_words c (count_of (check_set s)) ≡ a → r ≡ transitive_reads s c x
+      go (Err e) h = t.refused e h ∙ sym (transitive_refused e h)
+      go (Ok n) h = let a = t.answered n h in a.1 ∙ led-is s c x n h a.0 a.2

@@ -1,52 +1,16 @@
 -- The rows of positions below a number that pass a test: those that read what is found, and those of another row.
 use mathlib.Core.Path.{◌≡◌, sym, ap, ◌∙◌, subst}
-use mathlib.Core.Bool.{Bool, true, false, not, ◌&&◌, ◌||◌, or-false, or-true}
+use mathlib.Core.Bool.{Bool, true, false, ◌&&◌, ◌||◌, or-false, or-true}
 use mathlib.Core.List.{List}
 use Prim.Native.Nat.{ℕ, ◌+◌, ◌≤◌, ◌<◌}
 use native.Mathlib.Omega.{arith}
 use lib.Dec.{eqb, ltb}
-use borrow.Author.Tests.{eq-eqb, ne_eqb, eqb-true, ltb-true, ltb-false, not-true, not-false}
-use Rattle.records.specs.declared.finder.Found.{Found}
-use Rattle.records.specs.declared.finder.Found.TheVariants.{At, Nothing}
+use borrow.Author.Tests.{eq-eqb, ne_eqb, eqb-true, ltb-true, ltb-false}
+use Rattle.records.specs.Finder.{Found}
 use Rattle.records.proofs.Logic.{by, true≠false}
 use Rattle.resolution.specs.Row.{holds, Empty, Added}
-use Rattle.resolution.specs.Configuration.{edge_bit, unnamed_bit}
 use Rattle.resolution.specs.Readability.{Holding}
-use Rattle.access.specs.Access.{passes}
 use Rattle.access.specs.GraphSteps.{reader_at, reader_below}
-
--- ---- who reads what is found
-
-module _ (g : List ℕ) (i : ℕ) (f : Found) where
-  pub found_at : (j : ℕ) (r : Bool) → f ≡ At j → r ≡ edge_bit g i j → r ≡ passes (edge_bit g i) f
-  unfolding passes
-  found_at j r e er = er ∙ sym (rw e)
-
-  pub found_none : f ≡ Nothing → false ≡ passes (edge_bit g i) f
-  unfolding passes
-  found_none e = sym (rw e)
-
-pub ruleset found-laws = (found_at, found_none)
-
-module _ (ws g : List ℕ) (f : Found) (u : Bool) (k : ℕ) (a : Bool) (ea : a ≡ holds ws k) where
-  pub reader-not : not a ≡ true → false ≡ reader_at ws g f u k
-  unfolding reader_at
-  reader-not y = sym (rw (← ea, not-true a y))
-
-  module _ (y : not a ≡ false) (e : Bool) (ee : e ≡ passes (edge_bit g k) f) where
-    pub reader-edge : e ≡ true → true ≡ reader_at ws g f u k
-    unfolding reader_at
-    reader-edge z = sym (rw (← ea, not-false a y, ← ee, z))
-
-    pub reader-unnamed : (r : Bool) → e ≡ false → u ≡ true → r ≡ unnamed_bit g k → r ≡ reader_at ws g f u k
-    unfolding reader_at
-    reader-unnamed r z w er = er ∙ sym (rw (← ea, not-false a y, ← ee, z, w))
-
-    pub reader-none : e ≡ false → u ≡ false → false ≡ reader_at ws g f u k
-    unfolding reader_at
-    reader-none z w = sym (rw (← ea, not-false a y, ← ee, z, w))
-
-pub ruleset reader-laws = (reader-not, reader-edge, reader-unnamed, reader-none)
 
 -- ---- the positions below n that pass a test
 
@@ -106,4 +70,4 @@ module _ (ws g : List ℕ) (f : Found) (u : Bool) (n : ℕ) (row : List ℕ) whe
       pub readers-more : n ≤ 512 → (after : List ℕ) → r ≡ true → Added row k after → PassedAt (reader_at ws g f u) n after (k + 1)
       readers-more m after y a = passed-more (reader_at ws g f u) n row k h m after l (sym er ∙ y) a
 
-pub ruleset readers-laws = (readers-start, readers-end, readers-not, readers-more)
+pub ruleset readers_laws = (readers-start, readers-end, readers-not, readers-more)

@@ -1,6 +1,5 @@
+use Rattle.std.proofs.Common.{rules}
 use Rattle.access.proofs.graph.Leads.{onward-is}
-use borrow.Author.Rules.{rules}
-use borrow.Author.Rules.{rules}
 use Rattle.access.proofs.graph.onward.Goals as goal
 
 pub returns : goal.returns

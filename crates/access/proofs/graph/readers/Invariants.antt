@@ -1,10 +1,6 @@
-use Prim.Native.Nat.{◌-◌}
 use Rattle.access.specs.GraphSteps.{reader_at}
 use Rattle.access.proofs.graph.Rows.{PassedAt}
 use Rattle.access.proofs.graph.readers.Given as goal
 
 abbrev pub invariant-loop-k : goal.invariant-loop-k
 invariant-loop-k l = PassedAt (reader_at l.members.words l.words l.found l.asked) l.n l.row.words l.k
-
-abbrev pub decreases-loop-k : goal.decreases-loop-k
-decreases-loop-k l = l.n - l.k

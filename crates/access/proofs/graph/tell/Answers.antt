@@ -1,4 +1,4 @@
-use borrow.Author.Rules.{rules}
+use Rattle.std.proofs.Common.{rules}
 use Rattle.access.proofs.graph.Answers.{tell_is}
 use Rattle.access.proofs.graph.tell.Goals as goal
 
