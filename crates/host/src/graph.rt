@@ -5,30 +5,21 @@ ghost use Rattle.host.specs.Host.{graph_reply, row_after, RowTold};
 ghost use Rattle.host.specs.Reply.{Told};
 
 use crate::reply::{answer, refuse};
-use access::graph::{GraphAnswer, GraphOutcome, readers_of, transitive_reads};
-
-// Writes a row.
-fn put_row(row: &mut [u64; 8], words: [u64; 8])
-    ensures { row.new ≡ words }
-{
-    *row = words;
-}
+use access::graph::{GraphAnswer, readers_of, transitive_reads};
+use records::error::ModuleError;
 
 // The answer is 1 where ALL-UNNAMED is among what the row tells, else 0.
-fn tell(g: GraphAnswer, row: &mut [u64; 8], particulars: &mut [u64; 4]) -> u64
-    ensures { Told (graph_reply g.unnamed g.outcome) particulars.new result × (row.new ≡ row_after row.old g.row g.outcome) }
+#[tactic(auto, unfolding(crate::specs::Host::graph_reply, crate::specs::Host::row_after))]
+fn tell(g: Result<GraphAnswer, ModuleError>, row: &mut [u64; 8], particulars: &mut [u64; 4]) -> u64
+    ensures { Told (graph_reply g) particulars.new result × (row.new ≡ row_after row.old g) }
 {
-    let outcome = g.outcome;
-    match outcome {
-        GraphOutcome::Refused(e) => refuse(particulars, e),
-        GraphOutcome::Answered => {
-            let words = g.row;
-            put_row(row, words);
-            if g.unnamed {
-                return answer(particulars, 1);
-            }
-            answer(particulars, 0)
+    match g {
+        Ok(told) => {
+            let words = told.row;
+            *row = words;
+            answer(particulars, told.unnamed as usize)
         }
+        Err(e) => refuse(particulars, e),
     }
 }
 

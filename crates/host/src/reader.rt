@@ -1,11 +1,12 @@
 // The class reader and the jar reader. The answer is the number of bytes written.
 ghost use Rattle.host.specs.Reader.{ClassTold, JarTold};
 
-use crate::reply::tell_written;
+use crate::reply::tell_number;
 use class_reader::class_file::from_class_file;
 use records::jar::automatic_from_jar_name;
 
 // Writes the records of the module that a class file describes.
+#[tactic(auto, using(crate::proofs::reader::Laws::class_laws))]
 #[unsafe(no_mangle)]
 pub extern "C" fn saqhovune_from_class_file(
     file: &[u8],
@@ -14,7 +15,7 @@ pub extern "C" fn saqhovune_from_class_file(
 ) -> u64
     ensures { ClassTold file.now out.old out.new particulars.new result }
 {
-    tell_written(particulars, from_class_file(file, out))
+    tell_number(particulars, from_class_file(file, out))
 }
 
 // Writes the records of an automatic module.
@@ -29,8 +30,8 @@ pub extern "C" fn saqhovune_automatic_from_jar_name(
 ) -> u64
     ensures { JarTold jar.now given manifest.now packages.now out.old out.new particulars.new result }
 {
-    tell_written(
+    tell_number(
         particulars,
-        automatic_from_jar_name(jar, given, manifest, packages, out),
+        automatic_from_jar_name(jar, given.then_some(manifest), packages, out),
     )
 }

@@ -5,7 +5,6 @@ ghost use Rattle.host.specs.Host.{written_reply};
 ghost use Rattle.host.specs.Reply.{four, answered, refused, Told};
 
 use records::error::{Input, ModuleError};
-use records::jar::Written;
 
 // Writes the four words.
 fn put(particulars: &mut [u64; 4], a: usize, b: usize, c: usize, d: usize)
@@ -15,6 +14,7 @@ fn put(particulars: &mut [u64; 4], a: usize, b: usize, c: usize, d: usize)
 }
 
 // An answer of one word.
+#[tactic(auto, unfolding(crate::specs::Reply::answered, crate::specs::Reply::four))]
 pub fn answer(particulars: &mut [u64; 4], a: usize) -> u64
     ensures { Told (answered (a ∷ [])) particulars.new result }
 {
@@ -23,6 +23,7 @@ pub fn answer(particulars: &mut [u64; 4], a: usize) -> u64
 }
 
 // An answer of two words.
+#[tactic(auto, unfolding(crate::specs::Reply::answered, crate::specs::Reply::four))]
 pub fn answer_two(particulars: &mut [u64; 4], a: usize, b: usize) -> u64
     ensures { Told (answered (a ∷ b ∷ [])) particulars.new result }
 {
@@ -31,6 +32,7 @@ pub fn answer_two(particulars: &mut [u64; 4], a: usize, b: usize) -> u64
 }
 
 // The number of an input.
+#[tactic(auto, unfolding(records::specs::Error::input_number))]
 fn input(i: Input) -> usize
     ensures { result ≡ input_number i }
 {
@@ -42,6 +44,7 @@ fn input(i: Input) -> usize
 }
 
 // Writes the particulars of a refusal.
+#[tactic(auto, unfolding(crate::specs::Reply::four, records::specs::Error::particulars_of))]
 fn put_refusal(particulars: &mut [u64; 4], e: ModuleError)
     ensures { particulars.new ≡ four (particulars_of e) }
 {
@@ -60,6 +63,7 @@ fn put_refusal(particulars: &mut [u64; 4], e: ModuleError)
 }
 
 // A refusal.
+#[tactic(auto, unfolding(crate::specs::Reply::refused))]
 pub fn refuse(particulars: &mut [u64; 4], e: ModuleError) -> u64
     ensures { Told (refused e) particulars.new result }
 {
@@ -67,12 +71,13 @@ pub fn refuse(particulars: &mut [u64; 4], e: ModuleError) -> u64
     e.number() as u64
 }
 
-// What a reader answers.
-pub fn tell_written(particulars: &mut [u64; 4], w: Written) -> u64
+// The number of an answer, as of the bytes that a reader wrote, or a refusal.
+#[tactic(auto, unfolding(crate::specs::Host::written_reply))]
+pub fn tell_number(particulars: &mut [u64; 4], w: Result<usize, ModuleError>) -> u64
     ensures { Told (written_reply w) particulars.new result }
 {
     match w {
-        Written::Bytes(n) => answer(particulars, n),
-        Written::Refused(e) => refuse(particulars, e),
+        Ok(n) => answer(particulars, n),
+        Err(e) => refuse(particulars, e),
     }
 }

@@ -1,0 +1,2 @@
+-- What is proved of what the C functions tell.
+pub mod Replies
