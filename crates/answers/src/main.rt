@@ -15,7 +15,6 @@
 // the text of a package and its owner in two bytes (65,535 none); or 2, the text of a name and the rows of readers and of reads.
 #![tactic(auto)]
 
-mod form;
 mod question;
 mod reads;
 mod refusal;
@@ -23,240 +22,194 @@ mod rows;
 
 ghost use Rattle.std.specs.Prelude.{◌≤◌, length};
 
-use crate::form::{behind, expect, is_same, number, say, text};
-use crate::question::ask;
+use crate::question::Asked;
 use crate::reads::{add_rows, has_rows, is_reads};
-use crate::refusal::{
-    expect_check, expect_needed, expect_question, expect_refusal, print_refusal, refusal_of,
-};
+use crate::refusal::{Wanted, print_refusal};
 use crate::rows::{is_filled, put_rows};
-use records::bytes::{byte, head, same, tail};
-use records::error::ModuleError;
-use records::jar::{Written, automatic_from_jar_name};
+use cases::{Stored, expect};
+use records::bytes::{head, tail};
+use records::jar::automatic_from_jar_name;
 use resolution::configuration::WORDS;
-use resolution::resolve::Outcome;
+use resolution::resolve::resolve;
 use std::alloc::AllocError;
+use std::io;
+use std::rt::Files;
 
-// The words are those of the stored members and rows, and one behind them that is 7.
-fn expect_words(rt: &HostRuntime, words: &[u64], s: &[u8]) {
+// The words are those of the stored members and rows, and one behind them that is 7. The rows give the same words where each edge
+// is added by itself. Tells how many edges there are.
+fn expect_words(rt: &impl Print, words: &[u64], text: &[u8]) -> io::Result<()>
+    requires { 8 ≤ length words.now }
+{
+    let rows = tail(text, 64);
     let mut wanted = [7u64; 4617];
-    put_rows(&mut wanted, s);
-    expect(rt, is_same(words, &wanted), b"words");
-    expect(rt, has_rows(words, tail(s, 64)), b"reads");
-}
-
-// The stored rows give the same words where each edge is added by itself. Tells how many there are.
-fn expect_edges(rt: &HostRuntime, words: &[u64], rows: &[u8])
-    requires { 4616 ≤ length words.now }
-{
+    put_rows(&mut wanted, &mut Stored { rest: text });
+    expect(rt, words == &wanted[..], "words")?;
+    expect(rt, has_rows(words, rows), "reads")?;
     let mut made = [0u64; WORDS];
-    say(rt, b" reads");
-    number(rt, add_rows(&mut made, rows));
-    expect(rt, is_reads(words, &made), b"edges");
-}
-
-fn accepted(
-    rt: &HostRuntime,
-    set: &[u8],
-    request: &[u8],
-    words: &[u64],
-    stored: usize,
-    s: &[u8],
-    entries: &[u8],
-)
-    requires { 4616 ≤ length words.now }
-{
-    say(rt, b" resolved");
-    number(rt, resolution::configuration::len(words));
-    expect(rt, stored == 0, b"number");
-    expect_words(rt, words, s);
-    expect_edges(rt, words, tail(s, 64));
-    ask(rt, set, request, words, entries);
-}
-
-fn refused(rt: &HostRuntime, set: &[u8], request: &[u8], e: ModuleError, stored: usize, s: &[u8]) {
-    let r = refusal_of(e);
-    print_refusal(rt, r, set, request);
-    expect_refusal(rt, r, stored, s);
-    expect_check(rt, set, request, stored, s);
-    expect_question(rt, set, request, stored, s);
+    print!(rt; " reads {}", add_rows(&mut made, rows))?;
+    expect(rt, is_reads(words, &made), "edges")
 }
 
 // One word too few: what is refused with 1 to 3 still is, all else is refused with 4. No word changes.
-fn expect_short(rt: &HostRuntime, set: &[u8], request: &[u8], stored: usize, s: &[u8]) {
+fn expect_short(
+    rt: &impl Print,
+    set: &[u8],
+    request: &[u8],
+    wanted: &Wanted<'_>,
+) -> io::Result<()> {
     let mut words = [7u64; 4615];
-    match resolution::resolve::resolve(set, request, &mut words) {
-        Outcome::Accepted => expect(rt, false, b"too few words"),
-        Outcome::Refused(e) => expect_needed(rt, refusal_of(e), stored, s),
+    match resolve(set, request, &mut words) {
+        Ok(()) => expect(rt, false, "too few words")?,
+        Err(e) => wanted.expect_needed(rt, e)?,
     }
-    expect(rt, is_filled(&words), b"too few words changed");
+    expect(rt, is_filled(&words), "too few words changed")
 }
 
-// A set and a request, the stored number and what goes with it, and entries. Of the words lent one is too many, and stays as it is;
-// so do all where it is refused.
-fn resolve(rt: &HostRuntime, set: &[u8], request: &[u8], stored: usize, s: &[u8], entries: &[u8]) {
+// Texts of a set and a request, the stored number and what goes with it, and entries. Of the words lent one is too many, and stays
+// as it is; so do all where it is refused.
+fn resolution_case(rt: &impl Print, stored: &mut Stored<'_>) -> io::Result<()> {
+    let (set, request) = (stored.text(), stored.text());
+    let (number, text) = (stored.byte(), stored.text());
+    let wanted = Wanted { number, text };
+    let entries = stored.text();
     let mut words = [7u64; 4617];
-    let outcome = resolution::resolve::resolve(set, request, &mut words);
-    match outcome {
-        Outcome::Accepted => accepted(rt, set, request, &words, stored, s, entries),
-        Outcome::Refused(e) => {
-            refused(rt, set, request, e, stored, s);
-            expect(rt, is_filled(&words), b"words changed");
+    match resolve(set, request, &mut words) {
+        Ok(()) => {
+            let words = &words;
+            print!(rt; " resolved {}", resolution::configuration::len(words))?;
+            expect(rt, number == 0, "number")?;
+            expect_words(rt, words, text)?;
+            Asked {
+                set,
+                request,
+                words,
+            }
+            .ask(rt, entries)?;
+        }
+        Err(e) => {
+            print_refusal(rt, e, set, request)?;
+            wanted.expect_refusal(rt, e)?;
+            wanted.expect_check(rt, set, request)?;
+            wanted.expect_question(rt, set, request)?;
+            expect(rt, is_filled(&words), "words changed")?;
         }
     }
-    expect_short(rt, set, request, stored, s);
+    expect_short(rt, set, request, &wanted)
 }
 
-// A resolution at the front; what stands behind it.
-fn resolution_case<'a>(rt: &HostRuntime, s: &'a [u8]) -> &'a [u8] {
-    let t = behind(s);
-    let u = behind(t);
-    let v = tail(u, 1);
-    let w = behind(v);
-    resolve(rt, text(s), text(t), byte(u, 0), text(v), text(w));
-    behind(w)
-}
-
-// Entries over a configuration at the front; what stands behind them.
-fn configuration_case<'a>(rt: &HostRuntime, s: &'a [u8]) -> &'a [u8] {
-    let t = behind(s);
-    let u = behind(t);
-    let v = behind(u);
-    say(rt, b" asked");
+// Texts of a set, a request, a configuration and entries.
+fn configuration_case(rt: &impl Print, stored: &mut Stored<'_>) -> io::Result<()> {
+    let (set, request) = (stored.text(), stored.text());
+    print!(rt; " asked")?;
     let mut words = [0u64; WORDS];
-    put_rows(&mut words, text(u));
-    ask(rt, text(s), text(t), &words, text(v));
-    behind(v)
+    put_rows(
+        &mut words,
+        &mut Stored {
+            rest: stored.text(),
+        },
+    );
+    let words = &words;
+    Asked {
+        set,
+        request,
+        words,
+    }
+    .ask(rt, stored.text())
 }
 
-// What was written, or the refusal, and what the output holds now.
+// What a jar becomes: the name of its file, the name that its manifest gives, and its package records.
+#[derive(Clone, Copy)]
+struct Jar<'a> {
+    name: &'a [u8],
+    manifest: Option<&'a [u8]>,
+    packages: &'a [u8],
+}
+
+// The records of a jar, or the refusal, and what the output, whose bytes are all 7, holds then.
 fn expect_written(
-    rt: &HostRuntime,
-    w: Written,
-    stored: usize,
-    s: &[u8],
-    out: &[u8],
-    before: &[u8],
-) {
-    match w {
-        Written::Bytes(n) => {
-            say(rt, b" written");
-            number(rt, n);
-            expect(rt, stored == 0, b"number");
-            expect(rt, same(head(out, n), s), b"output");
-            expect(rt, same(tail(out, n), tail(before, n)), b"output behind");
+    rt: &impl Print,
+    jar: Jar<'_>,
+    wanted: &Wanted<'_>,
+    out: &mut [u8],
+) -> io::Result<()> {
+    match automatic_from_jar_name(jar.name, jar.manifest, jar.packages, out) {
+        Ok(n) => {
+            print!(rt; " written {n}")?;
+            expect(rt, wanted.number == 0, "number")?;
+            expect(rt, head(out, n) == wanted.text, "output")?;
+            expect(rt, is_untouched(tail(out, n)), "output behind")
         }
-        Written::Refused(e) => {
-            let r = refusal_of(e);
-            print_refusal(rt, r, b"", b"");
-            expect_refusal(rt, r, stored, s);
-            expect(rt, same(out, before), b"output changed");
+        Err(e) => {
+            print_refusal(rt, e, b"", b"")?;
+            wanted.expect_refusal(rt, e)?;
+            expect(rt, is_untouched(out), "output changed")
         }
     }
 }
 
-fn write_short(
-    rt: &HostRuntime,
-    jar: &[u8],
-    given: bool,
-    manifest: &[u8],
-    packages: &[u8],
-    stored: usize,
-    s: &[u8],
-) {
-    let before = [7u8; 40];
-    let mut out = [7u8; 40];
-    let w = automatic_from_jar_name(jar, given, manifest, packages, &mut out);
-    expect_written(rt, w, stored, s, &out, &before);
+fn is_untouched(out: &[u8]) -> bool {
+    out.iter().all(|byte| *byte == 7)
 }
 
-fn write_long(
-    rt: &HostRuntime,
-    jar: &[u8],
-    given: bool,
-    manifest: &[u8],
-    packages: &[u8],
-    stored: usize,
-    s: &[u8],
-) {
-    let before = [7u8; 4096];
+// Texts of a jar name, a manifest name and package records, whether the manifest name is given, whether the output has only 40
+// bytes, the stored number and what goes with it.
+fn jar_case(rt: &impl Print, stored: &mut Stored<'_>) -> io::Result<()> {
+    let (name, manifest, packages) = (stored.text(), stored.text(), stored.text());
+    let manifest = if stored.byte() == 1 {
+        Some(manifest)
+    } else {
+        None
+    };
+    let is_short = stored.byte() == 1;
+    let (number, text) = (stored.byte(), stored.text());
+    let jar = Jar {
+        name,
+        manifest,
+        packages,
+    };
     let mut out = [7u8; 4096];
-    let w = automatic_from_jar_name(jar, given, manifest, packages, &mut out);
-    expect_written(rt, w, stored, s, &out, &before);
+    let room = if is_short { 40 } else { 4096 };
+    expect_written(rt, jar, &Wanted { number, text }, &mut out[..room])
 }
 
-fn write(rt: &HostRuntime, jar: &[u8], manifest: &[u8], packages: &[u8], flags: &[u8], s: &[u8]) {
-    let given = byte(flags, 0) == 1;
-    let stored = byte(flags, 2);
-    if byte(flags, 1) == 1 {
-        write_short(rt, jar, given, manifest, packages, stored, s);
-        return;
+// The line of the case at the front.
+fn case(rt: &impl Print, stored: &mut Stored<'_>) -> io::Result<()> {
+    rt.write_all(stored.text())?;
+    print!(rt; ":")?;
+    match stored.byte() as u8 {
+        b'R' => resolution_case(rt, stored)?,
+        b'C' => configuration_case(rt, stored)?,
+        _ => jar_case(rt, stored)?,
     }
-    write_long(rt, jar, given, manifest, packages, stored, s);
-}
-
-// A jar at the front; what stands behind it.
-fn jar_case<'a>(rt: &HostRuntime, s: &'a [u8]) -> &'a [u8] {
-    let t = behind(s);
-    let u = behind(t);
-    let flags = behind(u);
-    let v = tail(flags, 3);
-    write(rt, text(s), text(t), text(u), flags, text(v));
-    behind(v)
-}
-
-// The case at the front, and what stands behind it.
-fn case<'a>(rt: &HostRuntime, s: &'a [u8]) -> &'a [u8] {
-    say(rt, text(s));
-    say(rt, b":");
-    let t = behind(s);
-    let kind = byte(t, 0);
-    if kind == 82 {
-        return resolution_case(rt, tail(t, 1));
-    }
-    if kind == 67 {
-        return configuration_case(rt, tail(t, 1));
-    }
-    jar_case(rt, tail(t, 1))
-}
-
-// The line of the case at the front, and what stands behind it.
-fn line<'a>(rt: &HostRuntime, s: &'a [u8]) -> &'a [u8] {
-    let rest = case(rt, s);
-    say(rt, b"\n");
-    rest
+    println!(rt)
 }
 
 // All cases, at most 4,096.
-fn run(rt: &HostRuntime, cases: &[u8]) {
-    let mut rest = cases;
-    let mut i: usize = 0;
-    while i < 4096 {
-        if rest.len() == 0 {
-            return;
+fn run(rt: &impl Print, cases: &[u8]) -> io::Result<()> {
+    let mut stored = Stored { rest: cases };
+    for _ in 0..4096 {
+        if stored.is_empty() {
+            break;
         }
-        let next = line(rt, rest);
-        rest = next;
-        i += 1;
+        case(rt, &mut stored)?;
     }
+    Ok(())
 }
 
-// The cases in this file, in this buffer.
-fn load(rt: &HostRuntime, name: &[u8], buffer: &mut [u8]) {
-    match files::read(rt, name, buffer) {
-        Ok(n) => run(rt, head(buffer, n)),
-        Err(e) => files::fail(rt, b"answers: cannot read the file", e),
-    }
-}
-
-// The cases in this file.
-fn run_file(rt: &HostRuntime, name: &[u8]) -> Result<(), AllocError> {
+// The cases in this file. What cannot be printed is passed over.
+fn run_file(
+    rt: &(impl Files + Print + Eprint + AllocGlobal),
+    file: &str,
+) -> Result<(), AllocError> {
     let mut buffer = vec![in rt.alloc(); 0u8; 524288]?;
-    load(rt, name, buffer.as_mut_slice());
+    let _ = match files::read_some(rt, file, &mut buffer) {
+        Ok(cases) => run(rt, cases),
+        Err(e) => eprintln!(rt; "answers: cannot read the file: {e}"),
+    };
     Ok(())
 }
 
 fn main(rt: HostRuntime) -> Result<(), AllocError> {
-    run_file(&rt, b"cases")?;
-    run_file(&rt, b"more")
+    run_file(&rt, "cases")?;
+    run_file(&rt, "more")
 }

@@ -1,146 +1,134 @@
 // Refusals: their particulars, printed and compared with the stored ones.
-use crate::form::{be32, expect, number, say};
-use access::access::{AccessAnswer, AccessKind, check_access};
-use records::bytes::{be16, byte, part, tail};
+use access::access::{AccessKind, check_access};
+use bstr::ByteSlice;
+use cases::{Refusal, Stored, expect};
+use records::bytes::part;
 use records::error::{Input, ModuleError};
 use records::request::check;
-use records::set::SetAnswer;
 use resolution::configuration::WORDS;
+use std::io;
 
-// A refusal: its number, the input that it points into, and its particulars.
+// What a case is to end with: the number of the refusal, 0 where there is none, and the text behind it.
 #[derive(Clone, Copy)]
-pub struct Refusal {
+pub struct Wanted<'a> {
     pub number: usize,
-    pub which: usize,
-    pub at: usize,
-    pub len: usize,
-    pub owner: usize,
-    pub second: usize,
+    pub text: &'a [u8],
 }
 
-fn input_of(i: Input) -> usize {
-    match i {
+// A refusal as it is stored: its number, the input that it points into, and its particulars, 0 where it has none.
+#[derive(Clone, Copy)]
+struct Particulars {
+    number: usize,
+    input: usize,
+    at: usize,
+    len: usize,
+    owner: usize,
+    second: usize,
+}
+
+fn input_number(input: Input) -> usize {
+    match input {
         Input::Set => 1,
         Input::Request => 2,
         Input::Packages => 3,
     }
 }
 
-fn pointed(number: usize, which: usize, at: usize) -> Refusal {
-    Refusal {
-        number,
-        which,
-        at,
-        len: 0,
-        owner: 0,
-        second: 0,
-    }
-}
-
-pub fn refusal_of(e: ModuleError) -> Refusal {
-    let number = e.number();
-    match e {
-        ModuleError::Malformed(i, at) => pointed(number, input_of(i), at),
-        ModuleError::TooLarge(at) => pointed(number, 0, at),
-        ModuleError::Repeated(at) => pointed(number, 0, at),
-        ModuleError::OutputTooShort(at) => pointed(number, 0, at),
-        ModuleError::ModuleNotFound(i, at, len) => Refusal {
-            number,
-            which: input_of(i),
-            at,
-            len,
-            owner: 0,
-            second: 0,
-        },
-        ModuleError::SplitPackage(at, len, owner, second) => Refusal {
-            number,
-            which: 1,
+impl From<ModuleError> for Particulars {
+    fn from(e: ModuleError) -> Particulars {
+        let (input, at, len, owner, second) = match e {
+            ModuleError::Malformed(input, at) => (input_number(input), at, 0, 0, 0),
+            ModuleError::TooLarge(at)
+            | ModuleError::Repeated(at)
+            | ModuleError::OutputTooShort(at) => (0, at, 0, 0, 0),
+            ModuleError::ModuleNotFound(input, at, len) => (input_number(input), at, len, 0, 0),
+            ModuleError::SplitPackage(at, len, owner, second) => (1, at, len, owner, second),
+            _ => (0, 0, 0, 0, 0),
+        };
+        Particulars {
+            number: e.number(),
+            input,
             at,
             len,
             owner,
             second,
-        },
-        _ => pointed(number, 0, 0),
-    }
-}
-
-// The name that the refusal points to.
-fn print_name(rt: &HostRuntime, r: Refusal, set: &[u8], request: &[u8]) {
-    say(rt, b" ");
-    if r.which == 2 {
-        say(rt, part(request, r.at, r.len));
-        return;
-    }
-    say(rt, part(set, r.at, r.len));
-}
-
-fn print_input(rt: &HostRuntime, which: usize) {
-    if which == 1 {
-        say(rt, b" set");
-    }
-    if which == 2 {
-        say(rt, b" request");
-    }
-    if which == 3 {
-        say(rt, b" packages");
-    }
-}
-
-pub fn print_refusal(rt: &HostRuntime, r: Refusal, set: &[u8], request: &[u8]) {
-    say(rt, b" refused");
-    number(rt, r.number);
-    if r.number == 5 {
-        print_name(rt, r, set, request);
-        return;
-    }
-    if r.number == 7 {
-        print_name(rt, r, set, request);
-        number(rt, r.owner);
-        number(rt, r.second);
-        return;
-    }
-    if r.number < 5 {
-        print_input(rt, r.which);
-        number(rt, r.at);
-    }
-}
-
-pub fn expect_refusal(rt: &HostRuntime, r: Refusal, stored: usize, s: &[u8]) {
-    expect(rt, r.number == stored, b"number");
-    expect(rt, r.which == byte(s, 0), b"input");
-    expect(rt, r.at == be32(tail(s, 1)), b"offset");
-    expect(rt, r.len == be16(s, 5), b"length");
-    expect(rt, r.owner == be16(s, 7), b"owner");
-    expect(rt, r.second == be16(s, 9), b"second module");
-}
-
-// The stored refusal where that is 1 to 3, else 4 with the words needed.
-pub fn expect_needed(rt: &HostRuntime, r: Refusal, stored: usize, s: &[u8]) {
-    if 0 < stored {
-        if stored < 4 {
-            expect_refusal(rt, r, stored, s);
-            return;
         }
     }
-    expect(rt, r.number == 4, b"number with too few words");
-    expect(rt, r.at == WORDS, b"words needed");
 }
 
-// The check ends with a refusal 1 to 3, and takes what is refused later.
-pub fn expect_check(rt: &HostRuntime, set: &[u8], request: &[u8], stored: usize, s: &[u8]) {
-    let checked = check(set, request);
-    let answer = checked.answer;
-    match answer {
-        SetAnswer::Modules(_) => expect(rt, 3 < stored, b"check"),
-        SetAnswer::Refused(e) => expect_refusal(rt, refusal_of(e), stored, s),
+impl Wanted<'_> {
+    fn particulars(&self) -> Particulars {
+        let mut stored = Stored { rest: self.text };
+        Particulars {
+            number: self.number,
+            input: stored.byte(),
+            at: stored.large_number(),
+            len: stored.number(),
+            owner: stored.number(),
+            second: stored.number(),
+        }
+    }
+
+    // The refusal is the stored one.
+    pub fn expect_refusal(&self, rt: &impl Print, e: ModuleError) -> io::Result<()> {
+        let given = Particulars::from(e);
+        let wanted = self.particulars();
+        expect(rt, given.number == wanted.number, "number")?;
+        expect(rt, given.input == wanted.input, "input")?;
+        expect(rt, given.at == wanted.at, "offset")?;
+        expect(rt, given.len == wanted.len, "length")?;
+        expect(rt, given.owner == wanted.owner, "owner")?;
+        expect(rt, given.second == wanted.second, "second module")
+    }
+
+    // The stored refusal where that is 1 to 3, else 4 with the words needed.
+    pub fn expect_needed(&self, rt: &impl Print, e: ModuleError) -> io::Result<()> {
+        if (1..=3).contains(&self.number) {
+            return self.expect_refusal(rt, e);
+        }
+        let given = Particulars::from(e);
+        expect(rt, given.number == 4, "number with too few words")?;
+        expect(rt, given.at == WORDS, "words needed")
+    }
+
+    // The check ends with a refusal 1 to 3, and takes what is refused later.
+    pub fn expect_check(&self, rt: &impl Print, set: &[u8], request: &[u8]) -> io::Result<()> {
+        match check(set, request) {
+            Ok(_) => expect(rt, 3 < self.number, "check"),
+            Err(e) => self.expect_refusal(rt, e),
+        }
+    }
+
+    // So does a question, also of a module about itself.
+    pub fn expect_question(&self, rt: &impl Print, set: &[u8], request: &[u8]) -> io::Result<()> {
+        let words = [0u64; WORDS];
+        match check_access(set, request, &words, AccessKind::Access, b"a", b"a", b"") {
+            Ok(_) => expect(rt, 3 < self.number, "question"),
+            Err(e) => self.expect_refusal(rt, e),
+        }
     }
 }
 
-// So does a question, also of a module about itself.
-pub fn expect_question(rt: &HostRuntime, set: &[u8], request: &[u8], stored: usize, s: &[u8]) {
-    let words = [0u64; WORDS];
-    match check_access(set, request, &words, AccessKind::Access, b"a", b"a", b"") {
-        AccessAnswer::Verdict(_) => expect(rt, 3 < stored, b"question"),
-        AccessAnswer::Refused(e) => expect_refusal(rt, refusal_of(e), stored, s),
+// The refusal, and with 5 and 7 the name that it points to.
+pub fn print_refusal(
+    rt: &impl Print,
+    e: ModuleError,
+    set: &[u8],
+    request: &[u8],
+) -> io::Result<()> {
+    print!(rt; " {}", Refusal(e))?;
+    match e {
+        ModuleError::ModuleNotFound(input, at, len) => {
+            let named = if matches!(input, Input::Request) {
+                request
+            } else {
+                set
+            };
+            print!(rt; " {}", part(named, at, len).as_bstr())
+        }
+        ModuleError::SplitPackage(at, len, owner, second) => {
+            print!(rt; " {} {owner} {second}", part(set, at, len).as_bstr())
+        }
+        _ => Ok(()),
     }
 }

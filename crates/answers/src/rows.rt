@@ -1,55 +1,49 @@
-// Configurations: the stored members and rows as words.
-ghost use Rattle.std.specs.Prelude.{◌≤◌, ◌<◌, length};
+// Rows and configurations: the stored ones as words, and what the words are compared with.
+ghost use Rattle.std.specs.Prelude.{◌≤◌, length};
 
-use crate::form::word;
-use records::bytes::{byte, tail};
+use cases::Stored;
+use resolution::configuration::MEMBER_WORDS;
+use resolution::row::Row;
+
+// A row's words of positions, and the one that says whether it has ALL-UNNAMED.
+pub const ROW_WORDS: usize = 9;
+
+// Eight bytes as a word.
+fn word(stored: &mut Stored<'_>) -> u64 {
+    let high = stored.large_number() as u64;
+    let low = stored.large_number() as u64;
+    (high << 32) | low
+}
 
 // The words at the front, as many as are lent.
-fn put(words: &mut [u64], s: &[u8]) {
-    let mut rest = s;
-    let mut k: usize = 0;
-    while k < words.len() {
-        words[k] = word(rest);
-        let next = tail(rest, 8);
-        rest = next;
-        k += 1;
+fn put(words: &mut [u64], stored: &mut Stored<'_>) {
+    for place in words {
+        *place = word(stored);
     }
 }
 
-// Position i gets the row at the front.
-fn put_row(words: &mut [u64], i: usize, s: &[u8])
-    requires in_bounds { 4616 ≤ length words.old }
-    requires i_bound { i < 512 }
-{
-    let at = 8 + 9 * i;
-    let end = at + 8;
-    put(&mut words[at..end], s);
-    words[end] = byte(s, 64) as u64;
+// A row's positions.
+pub fn row(stored: &mut Stored<'_>) -> Row {
+    let mut words = [0u64; 8];
+    put(&mut words, stored);
+    Row { words }
 }
 
-// The members at the front, and a row for each of 512 positions; those without a stored row have an empty one.
-pub fn put_rows(words: &mut [u64], s: &[u8])
-    requires { 4616 ≤ length words.old }
+// The members at the front, and a row for each position; those without a stored row have an empty one.
+pub fn put_rows(words: &mut [u64], stored: &mut Stored<'_>)
+    requires { 8 ≤ length words.old }
 {
-    put(&mut words[0..8], s);
-    let mut rest = tail(s, 64);
-    let mut i: usize = 0;
-    while i < 512 {
-        put_row(words, i, rest);
-        let next = tail(rest, 65);
-        rest = next;
-        i += 1;
+    let (members, rows) = words.split_at_mut(MEMBER_WORDS);
+    put(members, stored);
+    for row in rows.chunks_exact_mut(ROW_WORDS) {
+        if let Some((unnamed, positions)) = row.split_last_mut() {
+            put(positions, stored);
+            *unnamed = stored.byte() as u64;
+        }
     }
 }
 
 // Each word is 7.
 pub fn is_filled(words: &[u64]) -> bool {
-    let mut k: usize = 0;
-    while k < words.len() {
-        if words[k] != 7 {
-            return false;
-        }
-        k += 1;
-    }
-    true
+    words.iter().all(|word| *word == 7)
 }

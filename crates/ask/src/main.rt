@@ -2,125 +2,68 @@
 // and the one for reflection, or the number of the refusal; and on standard error the absent module, where one is.
 #![tactic(auto)]
 
-use access::access::{AccessAnswer, AccessCheckResult, AccessKind, check_access};
-use messages::tell_absent;
+use access::access::{AccessKind, check_access};
+use anyhow::{Context, Result, ensure};
+use messages::{Verdict, tell_absent};
 use resolution::configuration::WORDS;
-use resolution::resolve::Outcome;
+use resolution::resolve::resolve;
+use std::io;
+use std::rt::{Env, Files};
 
-fn say(rt: &HostRuntime, text: &[u8]) {
-    let _ = rt.write_all(text);
+// Whether the module `asker` may see this package of the module `target`.
+#[derive(Clone, Copy)]
+struct Question<'a> {
+    asker: &'a [u8],
+    target: &'a [u8],
+    package: &'a [u8],
 }
 
-fn refused(rt: &HostRuntime, number: usize) {
-    say(rt, b"refused ");
-    let _ = rt.print(number);
-    say(rt, b"\n");
-}
-
-// This text and the verdict.
-fn verdict(rt: &HostRuntime, text: &[u8], answer: AccessAnswer) {
-    match answer {
-        AccessAnswer::Verdict(v) => {
-            say(rt, text);
-            match v {
-                AccessCheckResult::Allowed => say(rt, b"Allowed\n"),
-                AccessCheckResult::NotReadable => say(rt, b"NotReadable\n"),
-                AccessCheckResult::NotExported => say(rt, b"NotExported\n"),
-                AccessCheckResult::NotOpened => say(rt, b"NotOpened\n"),
+impl Question<'_> {
+    // Prints both verdicts, with the configuration that the set and the request resolve to.
+    fn ask(&self, rt: &impl Print, set: &[u8], request: &[u8], words: &[u64]) -> io::Result<()> {
+        for (name, kind) in [
+            ("access", AccessKind::Access),
+            ("reflection", AccessKind::Reflection),
+        ] {
+            let (asker, target, package) = (self.asker, self.target, self.package);
+            match check_access(set, request, words, kind, asker, target, package) {
+                Ok(v) => println!(rt; "{name} {}", Verdict(v))?,
+                Err(e) => println!(rt; "refused {}", e.number())?,
             }
         }
-        AccessAnswer::Refused(e) => refused(rt, e.number()),
+        Ok(())
     }
 }
 
-// Both questions, with the configuration that the set and the request resolve to.
-fn ask(
-    rt: &HostRuntime,
-    set: &[u8],
-    request: &[u8],
-    words: &[u64],
-    asker: &[u8],
-    target: &[u8],
-    pkg: &[u8],
-) {
-    verdict(
-        rt,
-        b"access ",
-        check_access(set, request, words, AccessKind::Access, asker, target, pkg),
-    );
-    verdict(
-        rt,
-        b"reflection ",
-        check_access(
-            set,
-            request,
-            words,
-            AccessKind::Reflection,
-            asker,
-            target,
-            pkg,
-        ),
-    );
-}
-
-fn answer<'a>(
-    rt: &HostRuntime,
-    set: &'a [u8],
-    request: &'a [u8],
-    asker: &[u8],
-    target: &[u8],
-    pkg: &[u8],
-) {
-    let mut words = [0u64; WORDS];
-    let outcome = resolution::resolve::resolve(set, request, &mut words);
-    match outcome {
-        Outcome::Accepted => ask(rt, set, request, &words, asker, target, pkg),
-        Outcome::Refused(e) => refused(rt, e.number()),
-    }
-    tell_absent(rt, set, request, outcome);
-}
-
-// The files, and the answer.
-fn run(rt: &HostRuntime, asker: &[u8], target: &[u8], pkg: &[u8]) {
+fn run(rt: &(impl Env + Files + Print + Eprint)) -> Result<()> {
+    ensure!(files::arg_count(rt) == 3, "usage: ask ASKER TARGET PACKAGE");
+    let mut asker = [0u8; 4096];
+    let mut target = [0u8; 4096];
+    let mut package = [0u8; 4096];
+    let question = Question {
+        asker: files::arg(rt, 1, &mut asker).context("ask: ASKER")?,
+        target: files::arg(rt, 2, &mut target).context("ask: TARGET")?,
+        package: files::arg(rt, 3, &mut package).context("ask: PACKAGE")?,
+    };
     let mut set = [0u8; 65536];
-    let s = files::load(rt, b"set", b"ask: cannot read the file set", &mut set);
-    if !s.is_read {
-        return;
-    }
+    let set = files::read(rt, "set", &mut set).context("ask: cannot read the file set")?;
     let mut request = [0u8; 65536];
-    let q = files::load(
-        rt,
-        b"request",
-        b"ask: cannot read the file request",
-        &mut request,
-    );
-    if !q.is_read {
-        return;
-    }
-    let n = s.len;
-    let m = q.len;
-    answer(rt, &set[..n], &request[..m], asker, target, pkg);
+    let request = files::read(rt, "request", &mut request).context(
+        "ask: cannot read the file request",
+    )?;
+    let mut words = [0u64; WORDS];
+    let outcome = resolve(set, request, &mut words);
+    // What cannot be printed is passed over.
+    let _ = match outcome {
+        Ok(()) => question.ask(rt, set, request, &words),
+        Err(e) => println!(rt; "refused {}", e.number()),
+    };
+    tell_absent(rt, set, request, outcome);
+    Ok(())
 }
 
 fn main(rt: HostRuntime) {
-    if !files::has_arg(&rt, 3) || files::has_arg(&rt, 4) {
-        let _ = rt.stderr().write_all(b"usage: ask ASKER TARGET PACKAGE\n");
-        return;
+    if let Err(e) = run(&rt) {
+        let _ = eprintln!(rt; "{e:#}");
     }
-    let mut asker = [0u8; 4096];
-    let a = files::load_arg(&rt, 1, b"ask: ASKER", &mut asker);
-    if !a.is_read {
-        return;
-    }
-    let mut target = [0u8; 4096];
-    let t = files::load_arg(&rt, 2, b"ask: TARGET", &mut target);
-    if !t.is_read {
-        return;
-    }
-    let mut pkg = [0u8; 4096];
-    let p = files::load_arg(&rt, 3, b"ask: PACKAGE", &mut pkg);
-    if !p.is_read {
-        return;
-    }
-    run(&rt, &asker[..a.len], &target[..t.len], &pkg[..p.len]);
 }

@@ -1,15 +1,18 @@
-// Files of a program's working folder, its arguments, and what is said on standard error where one cannot be read or written.
+// Files of a program's working folder and its arguments, why one cannot be read or written, and the file that records are written to.
 #![tactic(auto)]
 
-ghost use Rattle.std.specs.Prelude.{IfOk};
-ghost use Rattle.files.specs.Counts.{IsPrefixLen};
+ghost use Rattle.std.specs.Prelude.{◌≡◌, ◌≤◌, ◌↔◌, length, IfOk, IsOk, IsUtf8};
 
+use arrayvec::ArrayString;
+use records::bytes::head;
+use records::error::ModuleError;
 use std::env::FillError;
+use std::fmt::Write;
 use std::fs::File;
-use std::io::{Cursor, Read, Write};
-use std::rt::Env;
-use std::str::from_utf8;
-use std::{fs, io};
+use std::io::{Cursor, Read};
+use std::rt::{Env, Files};
+use std::str::{Utf8Error, from_utf8};
+use std::{error, fmt, fs, io};
 
 // The system's numbers of three errors: an argument that is invalid, a name that is too long, and bytes that are no text.
 const EINVAL: i32 = 22;
@@ -18,146 +21,136 @@ const ENAMETOOLONG: i32 = 36;
 
 const EILSEQ: i32 = 84;
 
-// How many bytes of a file or an argument are in its buffer, and whether the file was read to its end or fills the buffer, or the
-// whole argument is there.
-#[derive(Clone, Copy)]
-pub struct Loaded {
-    pub len: usize,
-    pub is_read: bool,
-}
+// An error of the system, by its number. It prints as the system's text, without the number that std puts behind it.
+#[derive(Clone, Copy, PartialEq, Eq, Debug)]
+pub struct SystemError(i32);
 
-// What std says of an error of the system, without the number behind it.
-fn reason(text: &str) -> &str {
-    match text.rsplit_once(" (os error ") {
-        Some((reason, _)) => reason,
-        None => text,
+pub type Result<T> = std::result::Result<T, SystemError>;
+
+impl fmt::Display for SystemError {
+    fn fmt<W: fmt::Write>(&self, f: &mut fmt::Formatter<W>) -> fmt::Result {
+        let mut text = ArrayString::<128>::new();
+        write!(text, "{}", io::Error::from_raw_os_error(self.0))?;
+        let text = text.as_str();
+        f.write_str(
+            text.rsplit_once(" (os error ")
+                .map_or(text, |(reason, _)| reason),
+        )
     }
 }
 
-// Writes a line to standard error: what failed, a colon and the system's reason. A name with a NUL is an invalid argument.
-pub fn fail(rt: &HostRuntime, what: &[u8], error: io::Error) {
-    let code = error.raw_os_error().unwrap_or(EINVAL);
-    let mut to = Cursor::new([0u8; 128]);
-    let _ = write!(to, "{}", io::Error::from_raw_os_error(code));
-    let n = to.position().min(128) as usize;
-    let text = to.into_inner();
-    let all = from_utf8(&text[..n]).unwrap_or("");
-    let err = rt.stderr();
-    let _ = err.write_all(what);
-    let _ = err.write_all(b": ");
-    let _ = err.write_all(reason(all).as_bytes());
-    let _ = err.write_all(b"\n");
+impl error::Error for SystemError {}
+
+// An error without a number comes from a name with a NUL in it.
+impl From<io::Error> for SystemError {
+    fn from(error: io::Error) -> SystemError {
+        SystemError(error.raw_os_error().unwrap_or(EINVAL))
+    }
+}
+
+impl From<Utf8Error> for SystemError {
+    fn from(_error: Utf8Error) -> SystemError {
+        SystemError(EILSEQ)
+    }
+}
+
+impl From<FillError> for SystemError {
+    fn from(error: FillError) -> SystemError {
+        SystemError(match error {
+            FillError::NotPresent => EINVAL,
+            FillError::TooLong => ENAMETOOLONG,
+        })
+    }
 }
 
 // The path of a file's name, which is UTF-8 where std is to open it.
-fn path(name: &[u8]) -> io::Result<&str> {
-    from_utf8(name).map_err(|_| io::Error::from_raw_os_error(EILSEQ))
-}
-
-fn open(rt: &HostRuntime, name: &[u8]) -> io::Result<File> {
-    File::open(rt, path(name)?)
-}
-
-// One read; 0 where it fails, with the error.
-fn read_some(file: &mut File, buffer: &mut [u8], error: &mut io::Error) -> usize
-    ensures { IsPrefixLen result buffer.new }
+pub fn path(name: &[u8]) -> Result<&str>
+    ensures valid { IsOk result ↔ IsUtf8 name.now }
+    ensures value { IfOk result (λ path. path.now ≡ name.now) }
 {
-    match file.read(buffer) {
-        Ok(n) => n,
-        Err(e) => {
-            *error = e;
-            0
-        }
-    }
+    Ok(from_utf8(name)?)
 }
 
-// Reads until the buffer is full, the file ends or a read fails; how many bytes are at its start, and the error.
-fn read_full(file: &mut File, buffer: &mut [u8], error: &mut io::Error) -> usize
-    ensures { IsPrefixLen result buffer.new }
+// Reads until the buffer is full, the file ends or a read fails; how many bytes are at the buffer's start, and that failure.
+fn fill(file: &mut impl Read, buffer: &mut [u8]) -> (usize, io::Result<u64>)
+    ensures { result.0 ≤ length buffer.new }
 {
-    let mut done = 0;
-    while done < buffer.len() {
-        let n = read_some(file, &mut buffer[done..], error);
-        if n == 0 {
-            break;
-        }
-        done += n;
-    }
-    done
+    let room = buffer.len();
+    let mut to = Cursor::new(buffer);
+    let result = io::copy(&mut file.take(room as u64), &mut to);
+    (room.min(to.position() as usize), result)
 }
 
-// Whether a further read finds the file's end. It does not where the last one failed.
-fn is_ended(file: &mut File, error: &mut io::Error) -> bool {
-    let mut more = [0u8; 1];
-    match file.read(&mut more) {
-        Ok(n) => n == 0,
-        Err(e) => {
-            *error = e;
-            false
-        }
-    }
-}
-
-// As much of the file into the buffer as it has room for and can be read; its length. An error where the file cannot be opened.
-pub fn read(rt: &HostRuntime, name: &[u8], buffer: &mut [u8]) -> io::Result<usize>
-    ensures { IfOk result (λ n. IsPrefixLen n buffer.new) }
+// As much of the file as can be read and the buffer has room for.
+pub fn read_some<'a>(rt: &impl Files, path: &str, buffer: &'a mut [u8]) -> Result<&'a [u8]>
+    ensures { IfOk result (λ bytes. length bytes.now ≤ length buffer.old) }
 {
-    let mut file = open(rt, name)?;
-    let mut error = io::Error::from_raw_os_error(0);
-    Ok(read_full(&mut file, buffer, &mut error))
+    let mut file = File::open(rt, path)?;
+    let (len, _) = fill(&mut file, buffer);
+    Ok(&buffer[..len])
 }
 
-// The file into the buffer. Where it cannot be read, the message goes to standard error, with the reason.
-pub fn load(rt: &HostRuntime, name: &[u8], message: &[u8], buffer: &mut [u8]) -> Loaded
-    ensures { IsPrefixLen result.len buffer.new }
+// The file, or as much of it as the buffer has room for.
+pub fn read<'a>(rt: &impl Files, path: &str, buffer: &'a mut [u8]) -> Result<&'a [u8]>
+    ensures { IfOk result (λ bytes. length bytes.now ≤ length buffer.old) }
 {
-    let mut file = match open(rt, name) {
-        Ok(file) => file,
-        Err(e) => {
-            fail(rt, message, e);
-            return Loaded {
-                len: 0,
-                is_read: false,
-            };
-        }
-    };
-    let mut error = io::Error::from_raw_os_error(0);
-    let len = read_full(&mut file, buffer, &mut error);
-    let mut is_read = true;
-    if len < buffer.len() {
-        if !is_ended(&mut file, &mut error) {
-            fail(rt, message, error);
-            is_read = false;
-        }
-    }
-    Loaded { len, is_read }
+    let mut file = File::open(rt, path)?;
+    let (len, result) = fill(&mut file, buffer);
+    result?;
+    Ok(&buffer[..len])
 }
 
 // Writes these bytes to the file, which is made or overwritten.
-pub fn write(rt: &HostRuntime, name: &[u8], bytes: &[u8]) -> io::Result<()> {
-    fs::write(rt, path(name)?, bytes)
+pub fn write(rt: &impl Files, path: &str, bytes: &[u8]) -> Result<()> {
+    Ok(fs::write(rt, path, bytes)?)
 }
 
-// Whether the program was started with an argument of this number. Number 0 is the program's own name.
-pub fn has_arg(rt: &HostRuntime, i: usize) -> bool {
-    match rt.arg(i, &mut []) {
-        Ok(_) | Err(FillError::TooLong) => true,
-        Err(FillError::NotPresent) => false,
-    }
-}
-
-// The argument into the buffer. Where it is missing or longer than that, the message goes to standard error, with the reason.
-pub fn load_arg(rt: &HostRuntime, i: usize, message: &[u8], buffer: &mut [u8]) -> Loaded
-    ensures { IsPrefixLen result.len buffer.new }
+// The argument of this number. Number 0 is the program's own name.
+pub fn arg<'a>(rt: &impl Env, i: usize, buffer: &'a mut [u8]) -> Result<&'a [u8]>
+    ensures { IfOk result (λ bytes. length bytes.now ≤ length buffer.old) }
 {
-    let code = match rt.arg(i, buffer) {
-        Ok(len) => return Loaded { len, is_read: true },
-        Err(FillError::TooLong) => ENAMETOOLONG,
-        Err(FillError::NotPresent) => EINVAL,
-    };
-    fail(rt, message, io::Error::from_raw_os_error(code));
-    Loaded {
-        len: 0,
-        is_read: false,
+    let len = rt.arg(i, buffer)?;
+    Ok(&buffer[..len])
+}
+
+// How many arguments the program was started with, its own name aside.
+pub fn arg_count(rt: &impl Env) -> usize {
+    (1..usize::MAX)
+        .take_while(|i| !matches!(rt.arg(*i, &mut []), Err(FillError::NotPresent)))
+        .count()
+}
+
+// A refusal as it is printed: its number, behind 1 and 8 the place of the fault, and behind 4 the length needed.
+#[derive(Clone, Copy)]
+struct Refused(ModuleError);
+
+impl fmt::Display for Refused {
+    fn fmt<W: fmt::Write>(&self, f: &mut fmt::Formatter<W>) -> fmt::Result {
+        let number = self.0.number();
+        match self.0 {
+            ModuleError::Malformed(_, at)
+            | ModuleError::DescriptorParseError(at)
+            | ModuleError::OutputTooShort(at) => write!(f, "refused {number} {at}"),
+            _ => write!(f, "refused {number}"),
+        }
     }
+}
+
+// Writes the records at the front of the buffer to the file, which is made or overwritten, and prints their length; or prints the
+// refusal, and leaves the file alone. A line that cannot be printed is passed over.
+pub fn write_records(
+    rt: &(impl Files + Print),
+    file: &[u8],
+    written: std::result::Result<usize, ModuleError>,
+    buffer: &[u8],
+) -> Result<()> {
+    let _ = match written {
+        Ok(n) => {
+            let records = head(buffer, n);
+            write(rt, path(file)?, records)?;
+            println!(rt; "written {}", records.len())
+        }
+        Err(e) => println!(rt; "{}", Refused(e)),
+    };
+    Ok(())
 }

@@ -1,171 +1,111 @@
 // Shows the limits of the inputs: what the checks and the jar reader answer at them, and where.
 #![tactic(auto)]
 
-ghost use Rattle.files.specs.Counts.{IsPrefixLen};
+use cases::Refusal;
+use records::error::Input;
+use records::jar::automatic_from_jar_name;
+use records::request::check_records;
+use records::set::check_set;
+use std::io;
+use std::rt::Files;
 
-use records::error::{Input, ModuleError};
-use records::jar::Written;
-use records::request::RecordsAnswer;
-use records::set::SetAnswer;
-
-fn say(rt: &HostRuntime, text: &[u8]) {
-    let _ = rt.write_all(text);
+// As much of the file as can be read; nothing where it cannot be opened.
+fn read<'a>(rt: &impl Files, file: &str, buffer: &'a mut [u8]) -> &'a [u8] {
+    files::read_some(rt, file, buffer).unwrap_or(b"")
 }
 
-// A space and a number.
-fn number(rt: &HostRuntime, n: usize) {
-    say(rt, b" ");
-    let _ = rt.print(n);
-}
-
-fn input(rt: &HostRuntime, i: Input) {
-    match i {
-        Input::Set => say(rt, b" set"),
-        Input::Request => say(rt, b" request"),
-        Input::Packages => say(rt, b" packages"),
-    }
-}
-
-// The number of the refusal and its particulars.
-fn refused(rt: &HostRuntime, e: ModuleError) {
-    say(rt, b" refused");
-    number(rt, e.number());
-    match e {
-        ModuleError::Malformed(i, at) => {
-            input(rt, i);
-            number(rt, at);
-        }
-        ModuleError::TooLarge(at) => number(rt, at),
-        ModuleError::Repeated(at) => number(rt, at),
-        ModuleError::OutputTooShort(n) => number(rt, n),
-        _ => {}
-    }
-}
-
-// The whole file into the buffer; its length, 0 where it cannot be opened.
-fn load(rt: &HostRuntime, file: &[u8], buffer: &mut [u8]) -> usize
-    ensures { IsPrefixLen result buffer.new }
-{
-    say(rt, file);
-    match files::read(rt, file, buffer) {
-        Ok(n) => n,
-        Err(_) => 0,
-    }
-}
-
-fn set(rt: &HostRuntime, file: &[u8]) {
+fn show_set(rt: &(impl Files + Print), file: &str) -> io::Result<()> {
     let mut buffer = [0u8; 65536];
-    let n = load(rt, file, &mut buffer);
-    let c = records::set::check_set(&buffer[..n]);
-    let answer = c.answer;
-    match answer {
-        SetAnswer::Modules(count) => {
-            say(rt, b" modules");
-            number(rt, count);
-        }
-        SetAnswer::Refused(e) => refused(rt, e),
+    match check_set(read(rt, file, &mut buffer)) {
+        Ok(checked) => println!(rt; "{file} modules {}", checked.count),
+        Err(e) => println!(rt; "{file} {}", Refusal(e)),
     }
-    say(rt, b"\n");
 }
 
-fn rows(rt: &HostRuntime, kind: Input, file: &[u8]) {
+fn show_records(rt: &(impl Files + Print), input: Input, file: &str) -> io::Result<()> {
     let mut buffer = [0u8; 65536];
-    let n = load(rt, file, &mut buffer);
-    match records::request::check_records(kind, &buffer[..n]) {
-        RecordsAnswer::Good => say(rt, b" good"),
-        RecordsAnswer::Refused(e) => refused(rt, e),
-    }
-    say(rt, b"\n");
-}
-
-fn written(rt: &HostRuntime, w: Written) {
-    match w {
-        Written::Bytes(n) => {
-            say(rt, b" written");
-            number(rt, n);
-        }
-        Written::Refused(e) => refused(rt, e),
+    match check_records(input, read(rt, file, &mut buffer)) {
+        Ok(()) => println!(rt; "{file} good"),
+        Err(e) => println!(rt; "{file} {}", Refusal(e)),
     }
 }
 
-// A jar with these package records, and its name in a file: first into 4,096 bytes, then into 40.
-fn jar(rt: &HostRuntime, file: &[u8], packages: &[u8]) {
-    let mut name = [0u8; 4096];
-    let n = load(rt, file, &mut name);
-    let mut out = [0u8; 4096];
-    written(
-        rt,
-        records::jar::automatic_from_jar_name(&name[..n], false, b"", packages, &mut out),
-    );
-    say(rt, b", into 40 bytes");
-    let mut small = [0u8; 40];
-    written(
-        rt,
-        records::jar::automatic_from_jar_name(&name[..n], false, b"", packages, &mut small),
-    );
-    say(rt, b"\n");
+// What becomes of a jar of this name with these package records.
+fn show_written(rt: &impl Print, name: &[u8], packages: &[u8], out: &mut [u8]) -> io::Result<()> {
+    match automatic_from_jar_name(name, None, packages, out) {
+        Ok(n) => print!(rt; " written {n}"),
+        Err(e) => print!(rt; " {}", Refusal(e)),
+    }
 }
 
-fn modules(rt: &HostRuntime) {
-    set(rt, b"set-listing");
-    set(rt, b"set-512-modules");
-    set(rt, b"set-513-modules");
-    set(rt, b"set-65535-bytes");
-    set(rt, b"set-65536-bytes");
+// The same of a jar whose name is in a file: first into 4,096 bytes, then into 40.
+fn show_jar(rt: &(impl Files + Print), file: &str, packages: &[u8]) -> io::Result<()> {
+    let mut buffer = [0u8; 4096];
+    let name = read(rt, file, &mut buffer);
+    print!(rt; "{file}")?;
+    show_written(rt, name, packages, &mut [0u8; 4096])?;
+    print!(rt; ", into 40 bytes")?;
+    show_written(rt, name, packages, &mut [0u8; 40])?;
+    println!(rt)
 }
 
-fn places(rt: &HostRuntime) {
-    set(rt, b"set-8-places");
-    set(rt, b"set-9-places");
-    set(rt, b"set-8-places-module-first");
-    set(rt, b"set-9-places-module-first");
-    set(rt, b"set-512-with-hidden");
-    set(rt, b"set-513-with-hidden");
-    set(rt, b"set-place-body");
-    set(rt, b"set-place-requires");
-    set(rt, b"set-repeated-in-place");
-    set(rt, b"set-repeated-across-places");
-}
-
-fn malformed(rt: &HostRuntime) {
-    set(rt, b"set-cut-off");
-    set(rt, b"set-unknown-mark");
-    set(rt, b"set-root-in-set");
-    set(rt, b"set-static-in-set");
-    set(rt, b"set-no-module-first");
-    set(rt, b"set-requires-unnamed");
-    set(rt, b"set-second-main-class");
-    set(rt, b"set-repeated");
-    set(rt, b"set-unnamed");
-}
-
-fn requests(rt: &HostRuntime) {
-    rows(rt, Input::Request, b"request-second-limit");
-    rows(rt, Input::Request, b"request-module");
-    rows(rt, Input::Request, b"request-65535-bytes");
-    rows(rt, Input::Request, b"request-second-static");
-    rows(rt, Input::Request, b"request-static-body");
-    rows(rt, Input::Packages, b"packages-export");
-    rows(rt, Input::Packages, b"packages-three");
-}
-
-fn jars(rt: &HostRuntime) {
-    jar(rt, b"jar-255", b"");
-    jar(rt, b"jar-256", b"");
-    jar(rt, b"jar-foot-notes", b"");
-    jar(
-        rt,
-        b"jar-foot-notes",
-        b"PK\x00\x02\x01bPK\x00\x02\x01aPK\x00\x02\x01b",
-    );
-    jar(rt, b"jar-two-versions", b"");
-    jar(rt, b"jar-nothing", b"");
+fn run(rt: &(impl Files + Print)) -> io::Result<()> {
+    for file in [
+        "set-listing",
+        "set-512-modules",
+        "set-513-modules",
+        "set-65535-bytes",
+        "set-65536-bytes",
+        "set-cut-off",
+        "set-unknown-mark",
+        "set-root-in-set",
+        "set-static-in-set",
+        "set-no-module-first",
+        "set-requires-unnamed",
+        "set-second-main-class",
+        "set-repeated",
+        "set-unnamed",
+        "set-8-places",
+        "set-9-places",
+        "set-8-places-module-first",
+        "set-9-places-module-first",
+        "set-512-with-hidden",
+        "set-513-with-hidden",
+        "set-place-body",
+        "set-place-requires",
+        "set-repeated-in-place",
+        "set-repeated-across-places",
+    ] {
+        show_set(rt, file)?;
+    }
+    for file in [
+        "request-second-limit",
+        "request-module",
+        "request-65535-bytes",
+        "request-second-static",
+        "request-static-body",
+    ] {
+        show_records(rt, Input::Request, file)?;
+    }
+    show_records(rt, Input::Packages, "packages-export")?;
+    show_records(rt, Input::Packages, "packages-three")?;
+    for (file, packages) in [
+        ("jar-255", &b""[..]),
+        ("jar-256", b""),
+        ("jar-foot-notes", b""),
+        (
+            "jar-foot-notes",
+            b"PK\x00\x02\x01bPK\x00\x02\x01aPK\x00\x02\x01b",
+        ),
+        ("jar-two-versions", b""),
+        ("jar-nothing", b""),
+    ] {
+        show_jar(rt, file, packages)?;
+    }
+    Ok(())
 }
 
 fn main(rt: HostRuntime) {
-    modules(&rt);
-    malformed(&rt);
-    places(&rt);
-    requests(&rt);
-    jars(&rt);
+    // What cannot be printed is passed over.
+    let _ = run(&rt);
 }

@@ -7,187 +7,109 @@ mod names;
 
 ghost use Rattle.std.specs.Prelude.{◌≤◌, length};
 
+use anyhow::{Context, Result};
 use hidden::tell_hidden;
 use messages::tell_absent;
-use names::{in_order, module_of, place};
-use records::finder::name_at;
+use names::Resolved;
+use records::bytes::before;
 use records::order::name_in;
 use records::record::Kind;
 use records::set::check_set;
 use resolution::configuration::{WORDS, len, reads, reads_unnamed};
-use resolution::resolve::Outcome;
+use resolution::resolve::resolve;
+use std::io;
+use std::rt::Files;
 
-fn say(rt: &HostRuntime, text: &[u8]) {
-    let _ = rt.write_all(text);
-}
-
-// This text, a name, and the end of the line.
-fn line(rt: &HostRuntime, text: &[u8], name: &[u8]) {
-    say(rt, text);
-    say(rt, name);
-    say(rt, b"\n");
-}
-
-// This text, a number, and the end of the line.
-fn number(rt: &HostRuntime, text: &[u8], n: usize) {
-    say(rt, text);
-    let _ = rt.print(n);
-    say(rt, b"\n");
-}
-
-// Of the names from `from` up to `to`, those of the modules that module i reads.
-fn list_row(
-    rt: &HostRuntime,
-    set: &[u8],
-    starts: &[usize],
+// Of these names, those of the modules that module i reads.
+fn print_reads(
+    rt: &impl Print,
+    resolved: &Resolved<'_>,
     names: &[usize],
-    from: usize,
-    to: usize,
-    words: &[u64],
     i: usize,
-)
-    requires { to ≤ length names.now }
-{
-    let mut k = from;
-    while k < to {
-        let entry = names[k];
-        if reads(words, i, module_of(starts, entry)) {
-            line(rt, b"reads ", name_in(set, entry));
+) -> io::Result<()> {
+    for entry in names {
+        if reads(resolved.words, i, resolved.module_of(*entry)) {
+            println!(rt; "reads {}", resolved.name(*entry))?;
         }
-        k += 1;
     }
+    Ok(())
 }
 
-// The names of the modules that module i reads, and ALL-UNNAMED in its place among them.
-fn list_reads(
-    rt: &HostRuntime,
-    set: &[u8],
-    starts: &[usize],
-    names: &[usize],
-    count: usize,
-    words: &[u64],
-    i: usize,
-)
-    requires { count ≤ length names.now }
-{
-    let middle = place(set, names, count, b"ALL-UNNAMED");
-    list_row(rt, set, starts, names, 0, middle, words, i);
-    if reads_unnamed(words, i) {
-        line(rt, b"reads ", b"ALL-UNNAMED");
-    }
-    list_row(rt, set, starts, names, middle, count, words, i);
-}
-
-// The resolved modules by the table of their names, and below each the names that it reads.
-fn list_modules(
-    rt: &HostRuntime,
-    set: &[u8],
-    starts: &[usize],
-    names: &[usize],
-    count: usize,
-    words: &[u64],
-)
-    requires { count ≤ length names.now }
-{
-    let mut k: usize = 0;
-    while k < count {
-        let entry = names[k];
-        line(rt, b"module ", name_in(set, entry));
-        list_reads(
-            rt,
-            set,
-            starts,
-            names,
-            count,
-            words,
-            module_of(starts, entry),
-        );
-        k += 1;
-    }
-}
-
-// The name of the module at this position, nothing where there is none.
-fn module_name<'a>(set: &'a [u8], starts: &[usize], i: usize) -> &'a [u8] {
-    if starts.len() <= i {
-        return &set[..0];
-    }
-    name_at(set, starts[i])
-}
-
-// The packages in the table, and beside each the module that has it.
-fn list_owners(rt: &HostRuntime, set: &[u8], starts: &[usize], packages: &[usize], count: usize)
-    requires { count ≤ length packages.now }
-{
-    let mut k: usize = 0;
-    while k < count {
-        let entry = packages[k];
-        say(rt, b"owner ");
-        say(rt, name_in(set, entry));
-        line(rt, b" ", module_name(set, starts, module_of(starts, entry)));
-        k += 1;
-    }
-}
-
-// The modules in byte order. In an MO three bytes stand before the name.
-fn modules(rt: &HostRuntime, set: &[u8], starts: &[usize], words: &[u64])
-    requires { length set.now ≤ 65536 }
+// The members in byte order, and below each the names of the modules that it reads, with ALL-UNNAMED in its place among them. In an
+// MO three bytes stand before the name.
+fn print_modules(rt: &impl Print, resolved: &Resolved<'_>) -> io::Result<()>
+    requires { length resolved.now.set.now ≤ 65536 }
 {
     let mut table = [0usize; 16384];
-    let count = in_order(set, starts, words, Kind::Module, 3, &mut table);
-    list_modules(rt, set, starts, &table, count, words);
+    let names = resolved.in_order(Kind::Module, 3, &mut table);
+    let place = names.partition_point(|entry| before(
+        name_in(resolved.set, *entry),
+        b"ALL-UNNAMED",
+    ));
+    let (front, behind) = names.split_at(place);
+    for entry in names {
+        let i = resolved.module_of(*entry);
+        println!(rt; "module {}", resolved.name(*entry))?;
+        print_reads(rt, resolved, front, i)?;
+        if reads_unnamed(resolved.words, i) {
+            println!(rt; "reads ALL-UNNAMED")?;
+        }
+        print_reads(rt, resolved, behind, i)?;
+    }
+    Ok(())
 }
 
-// The packages in byte order.
-fn owners(rt: &HostRuntime, set: &[u8], starts: &[usize], words: &[u64])
-    requires { length set.now ≤ 65536 }
+// The packages of the members in byte order, and beside each the module that has it.
+fn print_owners(rt: &impl Print, resolved: &Resolved<'_>) -> io::Result<()>
+    requires { length resolved.now.set.now ≤ 65536 }
 {
     let mut table = [0usize; 16384];
-    let count = in_order(set, starts, words, Kind::Package, 0, &mut table);
-    list_owners(rt, set, starts, &table, count);
+    for entry in resolved.in_order(Kind::Package, 0, &mut table) {
+        println!(rt;
+            "owner {} {}",
+            resolved.name(*entry),
+            resolved.module_name(*entry)
+        )?;
+    }
+    Ok(())
 }
 
 // The configuration that the set and its request resolve to.
-fn list(rt: &HostRuntime, set: &[u8], words: &[u64])
+#[tactic(auto, using(crate::proofs::hidden::Laws::hidden_laws))]
+fn print_resolved(rt: &impl Print, set: &[u8], words: &[u64]) -> io::Result<()>
     requires { length set.now ≤ 65536 }
 {
-    number(rt, b"resolved ", len(words));
-    let checked = check_set(set);
-    let starts = checked.starts;
-    modules(rt, set, &starts, words);
-    owners(rt, set, &starts, words);
+    println!(rt; "resolved {}", len(words))?;
+    if let Ok(checked) = check_set(set) {
+        let starts = &checked.starts[..checked.count];
+        let resolved = Resolved { set, starts, words };
+        print_modules(rt, &resolved)?;
+        print_owners(rt, &resolved)?;
+    }
+    Ok(())
 }
 
-// The configuration, or the refusal.
-fn answer<'a>(rt: &HostRuntime, set: &'a [u8], request: &'a [u8])
-    requires { length set.now ≤ 65536 }
-{
+fn run(rt: &(impl Files + Print + Eprint)) -> Result<()> {
+    let mut set = [0u8; 65536];
+    let set = files::read(rt, "set", &mut set).context("resolve: cannot read the file set")?;
+    let mut request = [0u8; 65536];
+    let request = files::read(rt, "request", &mut request).context(
+        "resolve: cannot read the file request",
+    )?;
     let mut words = [0u64; WORDS];
-    let outcome = resolution::resolve::resolve(set, request, &mut words);
-    match outcome {
-        Outcome::Accepted => list(rt, set, &words),
-        Outcome::Refused(e) => number(rt, b"refused ", e.number()),
-    }
+    let outcome = resolve(set, request, &mut words);
+    // What cannot be printed is passed over.
+    let _ = match outcome {
+        Ok(()) => print_resolved(rt, set, &words),
+        Err(e) => println!(rt; "refused {}", e.number()),
+    };
     tell_absent(rt, set, request, outcome);
     tell_hidden(rt, set);
+    Ok(())
 }
 
 fn main(rt: HostRuntime) {
-    let mut set = [0u8; 65536];
-    let s = files::load(&rt, b"set", b"resolve: cannot read the file set", &mut set);
-    if !s.is_read {
-        return;
+    if let Err(e) = run(&rt) {
+        let _ = eprintln!(rt; "{e:#}");
     }
-    let mut request = [0u8; 65536];
-    let q = files::load(
-        &rt,
-        b"request",
-        b"resolve: cannot read the file request",
-        &mut request,
-    );
-    if !q.is_read {
-        return;
-    }
-    let n = s.len;
-    let m = q.len;
-    answer(&rt, &set[..n], &request[..m]);
 }

@@ -1,15 +1,15 @@
 use Rattle.std.proofs.Common.{rules}
-use Rattle.resolve.proofs.hidden.Laws.{place-laws}
+use Rattle.resolve.proofs.hidden.Laws.{place_laws}
 use Rattle.resolve.proofs.hidden.place_of.Goals as goal
 
-pub loop-start-smaller-then-start-gt4 : goal.loop-start-smaller-then-start-gt4
-loop-start-smaller-then-start-gt4 c = search (place-laws, rules)
+pub loop-span-smaller-then-span-gt4 : goal.loop-span-smaller-then-span-gt4
+loop-span-smaller-then-span-gt4 c = search (place_laws, rules)
 
-pub loop-start-preserved-then-start-gt4 : goal.loop-start-preserved-then-start-gt4
-loop-start-preserved-then-start-gt4 c = search (place-laws, rules)
+pub loop-span-preserved-then-span-gt4 : goal.loop-span-preserved-then-span-gt4
+loop-span-preserved-then-span-gt4 c = search (place_laws, rules)
 
-pub loop-start-smaller : goal.loop-start-smaller
-loop-start-smaller c = search (place-laws, rules)
+pub loop-span-smaller : goal.loop-span-smaller
+loop-span-smaller c = search (place_laws, rules)
 
-pub loop-start-preserved : goal.loop-start-preserved
-loop-start-preserved c = search (place-laws, rules)
+pub loop-span-preserved : goal.loop-span-preserved
+loop-span-preserved c = search (place_laws, rules)
