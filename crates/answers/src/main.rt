@@ -202,7 +202,7 @@ fn run_file(
     file: &str,
 ) -> Result<(), AllocError> {
     let mut buffer = vec![in rt.alloc(); 0u8; 524288]?;
-    let _ = match files::read_some(rt, file, &mut buffer) {
+    let _ = match files::read_some(rt, file.as_bytes(), &mut buffer) {
         Ok(cases) => run(rt, cases),
         Err(e) => eprintln!(rt; "answers: cannot read the file: {e}"),
     };

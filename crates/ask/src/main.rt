@@ -46,9 +46,9 @@ fn run(rt: &(impl Env + Files + Print + Eprint)) -> Result<()> {
         package: files::arg(rt, 3, &mut package).context("ask: PACKAGE")?,
     };
     let mut set = [0u8; 65536];
-    let set = files::read(rt, "set", &mut set).context("ask: cannot read the file set")?;
+    let set = files::read(rt, b"set", &mut set).context("ask: cannot read the file set")?;
     let mut request = [0u8; 65536];
-    let request = files::read(rt, "request", &mut request).context(
+    let request = files::read(rt, b"request", &mut request).context(
         "ask: cannot read the file request",
     )?;
     let mut words = [0u64; WORDS];

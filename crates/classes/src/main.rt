@@ -87,7 +87,7 @@ fn run(rt: &impl Print, cases: &[u8]) -> io::Result<()> {
 
 fn main(rt: HostRuntime) -> Result<(), AllocError> {
     let mut buffer = vec![in rt.alloc(); 0u8; 524288]?;
-    match files::read_some(&rt, "cases", &mut buffer) {
+    match files::read_some(&rt, b"cases", &mut buffer) {
         // What cannot be printed is passed over.
         Ok(cases) => {
             let _ = run(&rt, cases);

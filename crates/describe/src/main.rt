@@ -12,9 +12,7 @@ fn run(rt: &(impl Env + Files + Print)) -> Result<()> {
     let mut name = [0u8; 4096];
     let out = files::arg(rt, 2, &mut name).context("describe: OUT")?;
     let mut class = [0u8; 65536];
-    let class = files::path(file)
-        .and_then(|path| files::read(rt, path, &mut class))
-        .context("describe: cannot read FILE")?;
+    let class = files::read(rt, file, &mut class).context("describe: cannot read FILE")?;
     let mut records = [0u8; 65536];
     let written = from_class_file(class, &mut records);
     files::write_records(rt, out, written, &records).context("describe: cannot write OUT")

@@ -28,7 +28,7 @@ fn run(rt: &(impl Env + Files + Print)) -> Result<()> {
     let mut manifest = [0u8; 4096];
     let manifest = manifest_arg(rt, &mut manifest)?;
     let mut packages = [0u8; 65536];
-    let packages = files::read(rt, "packages", &mut packages).context(
+    let packages = files::read(rt, b"packages", &mut packages).context(
         "describe_jar: cannot read the file packages",
     )?;
     let mut records = [0u8; 65536];

@@ -82,27 +82,27 @@ fn fill(file: &mut impl Read, buffer: &mut [u8]) -> (usize, io::Result<u64>)
 }
 
 // As much of the file as can be read and the buffer has room for.
-pub fn read_some<'a>(rt: &impl Files, path: &str, buffer: &'a mut [u8]) -> Result<&'a [u8]>
+pub fn read_some<'a>(rt: &impl Files, name: &[u8], buffer: &'a mut [u8]) -> Result<&'a [u8]>
     ensures { IfOk result (λ bytes. length bytes.now ≤ length buffer.old) }
 {
-    let mut file = File::open(rt, path)?;
+    let mut file = File::open(rt, path(name)?)?;
     let (len, _) = fill(&mut file, buffer);
     Ok(&buffer[..len])
 }
 
 // The file, or as much of it as the buffer has room for.
-pub fn read<'a>(rt: &impl Files, path: &str, buffer: &'a mut [u8]) -> Result<&'a [u8]>
+pub fn read<'a>(rt: &impl Files, name: &[u8], buffer: &'a mut [u8]) -> Result<&'a [u8]>
     ensures { IfOk result (λ bytes. length bytes.now ≤ length buffer.old) }
 {
-    let mut file = File::open(rt, path)?;
+    let mut file = File::open(rt, path(name)?)?;
     let (len, result) = fill(&mut file, buffer);
     result?;
     Ok(&buffer[..len])
 }
 
 // Writes these bytes to the file, which is made or overwritten.
-pub fn write(rt: &impl Files, path: &str, bytes: &[u8]) -> Result<()> {
-    Ok(fs::write(rt, path, bytes)?)
+pub fn write(rt: &impl Files, name: &[u8], bytes: &[u8]) -> Result<()> {
+    Ok(fs::write(rt, path(name)?, bytes)?)
 }
 
 // The argument of this number. Number 0 is the program's own name.
@@ -147,7 +147,7 @@ pub fn write_records(
     let _ = match written {
         Ok(n) => {
             let records = head(buffer, n);
-            write(rt, path(file)?, records)?;
+            write(rt, file, records)?;
             println!(rt; "written {}", records.len())
         }
         Err(e) => println!(rt; "{}", Refused(e)),

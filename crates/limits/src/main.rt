@@ -11,7 +11,7 @@ use std::rt::Files;
 
 // As much of the file as can be read; nothing where it cannot be opened.
 fn read<'a>(rt: &impl Files, file: &str, buffer: &'a mut [u8]) -> &'a [u8] {
-    files::read_some(rt, file, buffer).unwrap_or(b"")
+    files::read_some(rt, file.as_bytes(), buffer).unwrap_or(b"")
 }
 
 fn show_set(rt: &(impl Files + Print), file: &str) -> io::Result<()> {

@@ -91,9 +91,9 @@ fn print_resolved(rt: &impl Print, set: &[u8], words: &[u64]) -> io::Result<()>
 
 fn run(rt: &(impl Files + Print + Eprint)) -> Result<()> {
     let mut set = [0u8; 65536];
-    let set = files::read(rt, "set", &mut set).context("resolve: cannot read the file set")?;
+    let set = files::read(rt, b"set", &mut set).context("resolve: cannot read the file set")?;
     let mut request = [0u8; 65536];
-    let request = files::read(rt, "request", &mut request).context(
+    let request = files::read(rt, b"request", &mut request).context(
         "resolve: cannot read the file request",
     )?;
     let mut words = [0u64; WORDS];
