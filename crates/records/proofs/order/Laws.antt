@@ -1,5 +1,5 @@
 -- What each turn of the search, of the shift and of the insertion shows.
-use Prim.Native.Nat.{ℕ, zero, suc, ◌+◌, ◌-◌, ◌≤◌, ◌<◌}
+use Prim.Native.Nat.{ℕ, zero, suc, ◌+◌, ◌-◌, ◌/◌, ◌≤◌, ◌<◌}
 use mathlib.Core.Path.{◌≡◌, refl, sym, ◌∙◌, ap}
 use mathlib.Core.List.{List, [], ◌∷◌, ◌++◌, map, map-append, append_assoc}
 use mathlib.Core.Bool.{Bool, true, false, ◌&&◌}
@@ -13,7 +13,6 @@ use Rattle.records.specs.Bytes.{same_bytes, before_bytes}
 use Rattle.records.specs.Name.{mem_name}
 use Rattle.records.specs.Order.{insert_name, is_ordered, name_in, Placed, stands_at, shifted, Inserted}
 use Rattle.std.specs.List.{copy_within}
-use Rattle.std.specs.List.Sorted.{IsPartitionedBy, IsPartitionPoint}
 use Rattle.records.proofs.Logic.{clash}
 use Rattle.records.proofs.bytes.Order.{before-trans}
 use Rattle.records.proofs.order.Ordered.{ordered-below, insert-ordered, insert-last, insert-there, insert-new, mem-there, mem-none}
@@ -45,16 +44,55 @@ module _ (s table name : List ℕ) (o : is_ordered (map (name_in s) table) ≡ t
           before-trans (name_in s (get_or table i d)) (name_in s (get_or table j d)) name h b
       both false eu = let q : j ≡ i = omega (arith, ltb-false i j eu) in rw q at b
 
-  pub place_partitioned : IsPartitionedBy (λ (e : ℕ). before_bytes (name_in s e) name) table
-  place_partitioned i j d l k b = names-ahead i j d l k b
+-- the names below low stand before the name, and the one at high does not
+pub record PlaceAt (s table name : List ℕ) (low high : ℕ) : Type 0 where
+  pub order : low ≤ high
+  pub within : high ≤ length table
+  pub sorted : is_ordered (map (name_in s) table) ≡ true
+  pub below : (i : ℕ) → i < low → before_bytes (name_in s (get_or table i 0)) name ≡ true
+  pub above : high < length table → before_bytes (name_in s (get_or table high 0)) name ≡ false
 
-  pub place_found : (r : ℕ) → r ≤ length table → IsPartitionPoint (λ (e : ℕ). before_bytes (name_in s e) name ≡ true) (λ (e : ℕ). before_bytes (name_in s e) name ≡ false) table r
-      → Placed s table (length table) name r
-  place_found r l p = record {
-    within = l;
-    below = λ i k. p.0 i 0 (omega arith) k;
-    above = λ k. p.1 r 0 (omega arith) k;
-  }
+pub place-start : (s table name : List ℕ) → is_ordered (map (name_in s) table) ≡ true → PlaceAt s table name 0 (length table)
+place-start s table name o = record {
+  order = omega arith;
+  within = omega arith;
+  sorted = o;
+  below = λ i l. absurd (omega arith);
+  above = λ l. absurd (omega arith);
+}
+
+module _ (s table name : List ℕ) (low high : ℕ) (h : PlaceAt s table name low high) where
+  pub place-index : low < high → low + (high - low) / 2 < length table
+  place-index l = omega (arith, h.within)
+
+  module _ (l : low < high) (m : List ℕ) (r : Bool) (em : m ≡ name_in s (get_or table (low + (high - low) / 2) 0)) (er : r ≡ before_bytes m name) where
+    here : before_bytes (name_in s (get_or table (low + (high - low) / 2) 0)) name ≡ r
+    here = cc
+
+    pub place_up : r ≡ true → PlaceAt s table name (low + (high - low) / 2 + 1) high
+    place_up e = record {
+      order = omega arith;
+      within = h.within;
+      sorted = h.sorted;
+      below = λ i k. names-ahead s table name h.sorted i (low + (high - low) / 2) 0 (omega arith) (omega (arith, h.within)) (here ∙ e);
+      above = h.above;
+    }
+
+    pub place_down : r ≡ false → PlaceAt s table name low (low + (high - low) / 2)
+    place_down e = record {
+      order = omega arith;
+      within = omega (arith, h.within);
+      sorted = h.sorted;
+      below = h.below;
+      above = λ k. here ∙ e;
+    }
+
+  pub place-done : high ≤ low → Placed s table (length table) name low
+  place-done l =
+      let e : high ≡ low = omega (arith, h.order) in
+      record { within = omega (arith, h.within); below = h.below; above = λ k. rw e at (h.above (omega arith)) }
+
+pub ruleset place_laws = (place-start, place-index, place_up, place_down, place-done)
 
 -- ---- the test of the last
 
