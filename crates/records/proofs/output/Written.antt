@@ -1,13 +1,12 @@
 -- Laws of what is written into a buffer, and what each turn of a loop that writes shows.
-use Prim.Native.Nat.{ℕ, ◌+◌, ◌-◌, ◌≤◌}
+use Prim.Native.Nat.{ℕ, ◌+◌, ◌≤◌, ◌<◌}
 use mathlib.Core.Path.{◌≡◌, refl, sym, ◌∙◌, ap}
 use mathlib.Core.List.{List, [], ◌++◌, append_assoc}
 use native.Mathlib.Omega.{arith}
 use native.Mathlib.Nat.{add_assoc, add-zero}
-use lib.ListN.{length, take, drop, length-append, length-drop, take-append-drop}
-use borrow.Rule.Slice.PartMut.{put_mid}
-use Rattle.std.proofs.lemmas.Slice.{put_mid-paste}
-use lib.Seq.{take_all, take_at, drop-append-add, drop-drop, length-take-le}
+use native.Mathlib.Numerals.{add-one}
+use lib.ListN.{length, get_or, take, drop, set, length-set, length-append, length-drop, take-append-drop}
+use lib.Seq.{paste, paste-zero, paste-suc, take_all, take_at, drop-append-add, drop-drop, length-take-le}
 use Rattle.records.specs.Output.{written, Put}
 
 -- the bytes in front and those written, then the bytes behind
@@ -15,12 +14,32 @@ flat : (o : List ℕ) (at : ℕ) (s : List ℕ) → written o at s ≡ (take at 
 unfolding written
 flat o at s = sym (append_assoc (take at o) s (drop (at + length s) o))
 
--- a copy of s into its place
-pub put_copied : (o : List ℕ) (at : ℕ) (s u : List ℕ) → u ≡ s → Put o at s (put_mid at (at + length s - at) o u) (at + length s)
-put_copied o at s u e = record {
-  place = refl;
-  bytes = put_mid-paste at (at + length s - at) o u s (length s) e (omega arith) refl ∙ rw (take_all (length s) s (omega arith)) (sym (flat o at s));
-}
+-- out is o with the first i bytes of s written at `at`
+pub record PutAt (o : List ℕ) (at : ℕ) (s out : List ℕ) (i : ℕ) : Type 0 where
+  pub room : at + length s ≤ length o
+  pub within : i ≤ length s
+  pub long : length out ≡ length o
+  pub done : out ≡ paste o at s i
+
+pub put-start : (o : List ℕ) (at : ℕ) (s : List ℕ) → at + length s ≤ length o → PutAt o at s o 0
+put-start o at s h = record { room = h; within = omega arith; long = refl; done = paste-zero o at s }
+
+module _ (o : List ℕ) (at : ℕ) (s out : List ℕ) (i : ℕ) (h : PutAt o at s out i) where
+  pub put-more : i < length s → PutAt o at s (set out (at + i) (get_or s i 0)) (i + 1)
+  put-more l = record {
+    room = h.room;
+    within = omega arith;
+    long = length-set out (at + i) (get_or s i 0) ∙ h.long;
+    done = rw (h.done, add-one i) (paste-suc o at s i 0 (omega (arith, h.room)) l);
+  }
+
+  pub put-within : i < length s → at + i < length out
+  put-within l = omega (arith, h.room, h.long)
+
+pub put-done : (o : List ℕ) (at : ℕ) (s out : List ℕ) → PutAt o at s out (length s) → Put o at s out (at + length s)
+put-done o at s out h = record { place = refl; bytes = h.done ∙ rw (take_all (length s) s (omega arith)) (sym (flat o at s)) }
+
+pub ruleset put_laws = (put-start, put-more, put-within, put-done)
 
 drop_past : (p d : List ℕ) (n m : ℕ) → length p ≡ n → drop (n + m) (p ++ d) ≡ drop m d
 drop_past p d n m e = rw (← e) (drop-append-add p d m)
