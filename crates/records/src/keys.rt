@@ -104,9 +104,14 @@ impl Keys {
     pub fn compare(self, other: Keys) -> Ordering
         ensures { result ≡ key_standing self.first self.next other.first other.next }
     {
-        self.first
-            .cmp(&other.first)
-            .then(self.next.cmp(&other.next))
+        // Kept: `cmp` with `then` compares both keys each time.
+        if self.first < other.first {
+            return Ordering::Less;
+        }
+        if other.first < self.first {
+            return Ordering::Greater;
+        }
+        self.next.cmp(&other.next)
     }
 }
 

@@ -82,7 +82,9 @@ impl<'a> Modules<'a> {
         }
     }
 
-    // How the name of entry m of the table stands to this name, which has these keys.
+    // How the name of entry m of the table stands to this name, which has these keys. It stands in each turn of
+    // the search's loop, so it is not to be a call.
+    #[inline(always)]
     #[tactic(auto, using(crate::proofs::sorted::Laws::entry_laws))]
     fn compare_entry(&self, m: usize, name: &[u8], keys: Keys) -> Ordering
         requires m_bound { m < entries_in self.now.index.now }

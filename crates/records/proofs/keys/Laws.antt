@@ -20,7 +20,7 @@ use Rattle.records.proofs.Logic.{by}
 use Rattle.records.proofs.bytes.Laws.{byte-none, same_refl}
 use Rattle.records.proofs.bytes.Order.{before_irrefl, same-not-before}
 use Rattle.std.specs.declared.cmp.Ordering.TheVariants.{Less, Equal, Greater}
-use Rattle.std.specs.Ordering.{nat_cmp, ordering_then}
+use Rattle.std.specs.Ordering.{nat_cmp}
 
 -- ---- the comparison
 
@@ -135,7 +135,7 @@ module _ (s : List ℕ) (n w : ℕ) (l : 8 < n) (h : n < 16) (e : length s ≡ n
       = ap (λ (x : ℕ). key_to x (drop 8 s)) (sym z) ∙ key_split (n - 8) (16 - n) (drop 8 s) in
       rw rest-number (sym (q ∙ rw rest-none (add-zero (key_to (n - 8) (drop 8 s) * 256 ^ (16 - n)))))
 
-next-some : (s : List ℕ) (w r : ℕ) → 8 < length s → length s < 16 → Key s (length s - 8) w → r ≡ ending_of w (length s) → Key s 8 r
+pub next-some : (s : List ℕ) (w r : ℕ) → 8 < length s → length s < 16 → Key s (length s - 8) w → r ≡ ending_of w (length s) → Key s 8 r
 next-some s w r l h k e =
     record { is = e ∙ ending-number s (length s) w l h refl k; small = ending-small s (length s) w l h refl k }
 
@@ -182,19 +182,24 @@ cmp-greater : (a k : ℕ) → k < a → nat_cmp a k ≡ Greater
 cmp-greater a k l = rw (le-ltb a k (omega arith), ne_eqb a k (λ e. omega arith))
 
 -- the first keys decide, and where they are equal the next ones
-pub keys-then : (a b k j : ℕ) (r s : Ordering) → r ≡ nat_cmp a k → s ≡ nat_cmp b j → ordering_then r s ≡ key_standing a b k j
-unfolding key_standing
-keys-then a b k j r s er es =
-    three a k _
-    (λ l. rw (er, cmp-less a k l, lt-ltb a k l))
-    (λ e. let m : k ≤ a = omega arith in let n : a ≤ k = omega arith in
-    three b j _
-    (λ l. rw (er, es, cmp-equal a k e, le-ltb a k m, le-ltb k a n, cmp-less b j l, lt-ltb b j l))
-    (λ f. let o : j ≤ b = omega arith in let p : b ≤ j = omega arith in rw (er, es, cmp-equal a k e, le-ltb a k m, le-ltb k a n, cmp-equal b j f, le-ltb b j o, le-ltb j b p))
-    (λ l. let o : j ≤ b = omega arith in rw (er, es, cmp-equal a k e, le-ltb a k m, le-ltb k a n, cmp-greater b j l, le-ltb b j o, lt-ltb j b l)))
-    (λ l. let m : k ≤ a = omega arith in rw (er, cmp-greater a k l, le-ltb a k m, lt-ltb k a l))
+module _ (a b k j : ℕ) where
+  pub keys-less : a < k → Less ≡ key_standing a b k j
+  unfolding key_standing
+  keys-less l = rw (lt-ltb a k l)
 
-pub ruleset by_laws = (keys-then)
+  pub keys-greater : k ≤ a → k < a → Greater ≡ key_standing a b k j
+  unfolding key_standing
+  keys-greater m l = rw (le-ltb a k m, lt-ltb k a l)
+
+  pub keys-next : k ≤ a → a ≤ k → (s : Ordering) → s ≡ nat_cmp b j → s ≡ key_standing a b k j
+  unfolding key_standing
+  keys-next m n s es =
+      three b j _
+      (λ l. rw (es, le-ltb a k m, le-ltb k a n, cmp-less b j l, lt-ltb b j l))
+      (λ f. let o : j ≤ b = omega arith in let p : b ≤ j = omega arith in rw (es, le-ltb a k m, le-ltb k a n, cmp-equal b j f, le-ltb b j o, le-ltb j b p))
+      (λ l. let o : j ≤ b = omega arith in rw (es, le-ltb a k m, le-ltb k a n, cmp-greater b j l, le-ltb b j o, lt-ltb j b l))
+
+pub ruleset by_laws = (keys-less, keys-greater, keys-next)
 
 -- ---- names whose first 16 bytes are the same
 
