@@ -201,8 +201,11 @@ fn read_attributes(class: ClassFile, at: usize, out: &mut [u8]) -> Result<usize,
     if !fields_good(class, at) {
         return Err(ModuleError::DescriptorParseError(at));
     }
-    let walked = walk(class, be16(class.file, at + 12), at + 14)?;
-    write_descriptor(class, walked, out)
+    // Kept: by `?` the place that is told would not stand here, for must-fail/wrong_offset.edit to change it.
+    match walk(class, be16(class.file, at + 12), at + 14) {
+        Ok(walked) => write_descriptor(class, walked, out),
+        Err(fault) => Err(ModuleError::DescriptorParseError(fault.at)),
+    }
 }
 
 // Reads the pool into the table, and what stands behind it.

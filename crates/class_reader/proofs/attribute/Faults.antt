@@ -113,13 +113,13 @@ module _ (f t : List ℕ) (s : Seen) (at : ℕ) (w' : Walked) where
     unfolding walk_from
     step-test = step_both at rest_found w' (leb (attribute_end f at) (length f) && attribute_good f t s at) e
 
-    step-whole : leb (attribute_end f at) (length f) ≡ true
+    pub step-whole : leb (attribute_end f at) (length f) ≡ true
     step-whole = and_left (leb (attribute_end f at) (length f)) (attribute_good f t s at) step-test
 
-    step-good : attribute_good f t s at ≡ true
+    pub step-good : attribute_good f t s at ≡ true
     step-good = and_right (leb (attribute_end f at) (length f)) (attribute_good f t s at) step-test
 
-    step-rest : walk_from f t n (see (attribute_at f t at) at s) (attribute_end f at) ≡ Ok w'
+    pub step-rest : walk_from f t n (see (attribute_at f t at) at s) (attribute_end f at) ≡ Ok w'
     unfolding walk_from
     step-rest = step-on at rest_found w' (leb (attribute_end f at) (length f) && attribute_good f t s at) e
 
@@ -211,7 +211,7 @@ good-told f t s at e =
     let b : Bool = contents_good a f t (at + 6) (attribute_end f at) in
     and_right (is_none (seen_at a s)) b (and_right (is_tag 1 f t (u16_at f at)) (is_none (seen_at a s) && b) e)
 
-found-good : (f t : List ℕ) (n : ℕ) (s : Seen) (at : ℕ) (w' : Walked) → SeenGood f t s → walk_from f t n s at ≡ Ok w' → SeenGood f t w'.seen
+pub found-good : (f t : List ℕ) (n : ℕ) (s : Seen) (at : ℕ) (w' : Walked) → SeenGood f t s → walk_from f t n s at ≡ Ok w' → SeenGood f t w'.seen
 found-good f t zero s at w' g e = let q : found f t s ≡ w' = last-met f t s at w' e in rw (← q) g
 found-good f t (suc n) s at w' g e =
     let l : attribute_end f at ≤ length f = leb-true (attribute_end f at) (length f) (step-whole f t s at w' n e) in

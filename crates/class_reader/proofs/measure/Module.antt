@@ -34,11 +34,11 @@ with-both (Some n) a b = rw (large_append a b, bytes-long a b) (go (is_large a))
     go true = refl
     go false = rw e
 
-adding-none : (m : Measured) → adding m m.next [] ≡ m
+pub adding-none : (m : Measured) → adding m m.next [] ≡ m
 unfolding adding
 adding-none m = rw (with-none m.size)
 
-adding-more : (m : Measured) (n k : ℕ) (a b : List Item) → adding (adding m n a) k b ≡ adding m k (a ++ b)
+pub adding-more : (m : Measured) (n k : ℕ) (a b : List Item) → adding (adding m n a) k b ≡ adding m k (a ++ b)
 unfolding adding
 adding-more m n k a b = rw (with-both m.size a b)
 
