@@ -6,7 +6,7 @@ ghost use Rattle.resolution.specs.Resolve.{resolve as resolveBytes};
 ghost use Rattle.host.specs.Host.{set_reply, outcome_reply, Resolved};
 ghost use Rattle.host.specs.Reply.{Told};
 
-use crate::reply::tell_number;
+use crate::reply::{answer, refuse, tell_number};
 use records::request::check;
 use resolution::configuration::len;
 use resolution::resolve::resolve;
@@ -17,8 +17,10 @@ use resolution::resolve::resolve;
 pub extern "C" fn saqhovune_check(set: &[u8], request: &[u8], particulars: &mut [u64; 4]) -> u64
     ensures { Told (set_reply (count_of (check_inputs set.now request.now))) particulars.new result }
 {
-    let outcome = check(set, request);
-    tell_number(particulars, outcome.map(|checked| checked.count))
+    match check(set, request) {
+        Ok(checked) => answer(particulars, checked.count),
+        Err(e) => refuse(particulars, e),
+    }
 }
 
 // Resolves a set and a request into the first 4,616 of the lent words. The answer is the number of resolved modules.

@@ -133,6 +133,21 @@ pub record WithAt (ws : List ℕ) (k : ℕ) (out : List ℕ) (q : ℕ) : Type 0 
 pub with-start : (ws : List ℕ) (k : ℕ) → length ws ≡ 8 → WithAt ws k ws 0
 with-start ws k n = record { long = n; new = λ i l. absurd (omega arith); still = λ i l. refl }
 
+-- the words of the other half are as they were
+other_word : (k q : ℕ) (w b : ℕ) → (k / 64 ≡ q → ⊥) → bit w b ≡ bit w b || (eqb (k / 64) q && eqb b (k % 64))
+other_word k q w b z = rw (ne_eqb (k / 64) q z, or-false (bit w b))
+
+pub with-start_high : (ws : List ℕ) (k : ℕ) → length ws ≡ 8 → 256 ≤ k → WithAt ws k ws 4
+with-start_high ws k n l = record { long = n; new = λ i m b. other_word k i (get_or ws i 0) b (λ e. omega (arith, e)); still = λ i m. refl }
+
+pub with-half : (ws : List ℕ) (k : ℕ) (out : List ℕ) → k < 256 → WithAt ws k out 4 → WithAt ws k out 8
+with-half ws k out l h = record { long = h.long; new = new; still = λ i m. h.still i (omega arith) }
+  where
+    new : (i : ℕ) → i < 8 → WordOf ws k i (get_or out i 0)
+    new i m b = by (ltb i 4)
+        (λ y. h.new i (ltb-true i 4 y) b)
+        (λ y. let z : 4 ≤ i = ltb-false i 4 y in rw (h.still i z) (other_word k i (get_or ws i 0) b (λ e. omega (arith, e))))
+
 module _ (ws : List ℕ) (k : ℕ) (out : List ℕ) (q : ℕ) (h : WithAt ws k out q) where
   pub with-next : (w : ℕ) → q < 8 → ((b : ℕ) → bit w b ≡ bit (get_or out q 0) b || (eqb (k / 64) q && eqb b (k % 64))) → WithAt ws k (set out q w) (q + 1)
   with-next w l e = record {
@@ -216,4 +231,4 @@ pub ruleset next-laws = (next_start, next-found, next-on, next-end)
 
 pub ruleset has-laws = (has_in, has-out)
 
-pub ruleset with-laws = (with-start, with-next, with-done, with_out)
+pub ruleset with-laws = (with-start, with-start_high, with-half, with-next, with-done, with_out)
