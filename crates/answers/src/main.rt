@@ -13,6 +13,7 @@
 // manifest name is given, whether the output has only 40 bytes, the number (0 where written), the text of the records or the refusal.
 // An entry is 0, texts of asker, target and package, and the verdicts of access and reflection (0 to 3 in document order); or 1,
 // the text of a package and its owner in two bytes (65,535 none); or 2, the text of a name and the rows of readers and of reads.
+// What cannot be printed is passed over.
 #![tactic(auto)]
 
 mod question;
@@ -32,42 +33,36 @@ use records::jar::automatic_from_jar_name;
 use resolution::configuration::WORDS;
 use resolution::resolve::resolve;
 use std::alloc::AllocError;
-use std::io;
 use std::rt::Files;
 
 // The words are those of the stored members and rows, and one behind them that is 7. The rows give the same words where each edge
 // is added by itself. Tells how many edges there are.
-fn expect_words(rt: &impl Print, words: &[u64], text: &[u8]) -> io::Result<()>
+fn expect_words(rt: &impl Print, words: &[u64], text: &[u8])
     requires { 8 ≤ length words.now }
 {
     let rows = tail(text, 64);
     let mut wanted = [7u64; 4617];
     put_rows(&mut wanted, &mut Stored { rest: text });
-    expect(rt, words == &wanted[..], "words")?;
-    expect(rt, has_rows(words, rows), "reads")?;
+    expect(rt, words == &wanted[..], "words");
+    expect(rt, has_rows(words, rows), "reads");
     let mut made = [0u64; WORDS];
-    print!(rt; " reads {}", add_rows(&mut made, rows))?;
-    expect(rt, is_reads(words, &made), "edges")
+    let _ = print!(rt; " reads {}", add_rows(&mut made, rows));
+    expect(rt, is_reads(words, &made), "edges");
 }
 
 // One word too few: what is refused with 1 to 3 still is, all else is refused with 4. No word changes.
-fn expect_short(
-    rt: &impl Print,
-    set: &[u8],
-    request: &[u8],
-    wanted: &Wanted<'_>,
-) -> io::Result<()> {
+fn expect_short(rt: &impl Print, set: &[u8], request: &[u8], wanted: &Wanted<'_>) {
     let mut words = [7u64; 4615];
     match resolve(set, request, &mut words) {
-        Ok(()) => expect(rt, false, "too few words")?,
-        Err(e) => wanted.expect_needed(rt, e)?,
+        Ok(()) => expect(rt, false, "too few words"),
+        Err(e) => wanted.expect_needed(rt, e),
     }
-    expect(rt, is_filled(&words), "too few words changed")
+    expect(rt, is_filled(&words), "too few words changed");
 }
 
 // Texts of a set and a request, the stored number and what goes with it, and entries. Of the words lent one is too many, and stays
 // as it is; so do all where it is refused.
-fn resolution_case(rt: &impl Print, stored: &mut Stored<'_>) -> io::Result<()> {
+fn resolution_case(rt: &impl Print, stored: &mut Stored<'_>) {
     let (set, request) = (stored.text(), stored.text());
     let (number, text) = (stored.byte(), stored.text());
     let wanted = Wanted { number, text };
@@ -76,31 +71,31 @@ fn resolution_case(rt: &impl Print, stored: &mut Stored<'_>) -> io::Result<()> {
     match resolve(set, request, &mut words) {
         Ok(()) => {
             let words = &words;
-            print!(rt; " resolved {}", resolution::configuration::len(words))?;
-            expect(rt, number == 0, "number")?;
-            expect_words(rt, words, text)?;
+            let _ = print!(rt; " resolved {}", resolution::configuration::len(words));
+            expect(rt, number == 0, "number");
+            expect_words(rt, words, text);
             Asked {
                 set,
                 request,
                 words,
             }
-            .ask(rt, entries)?;
+            .ask(rt, entries);
         }
         Err(e) => {
-            print_refusal(rt, e, set, request)?;
-            wanted.expect_refusal(rt, e)?;
-            wanted.expect_check(rt, set, request)?;
-            wanted.expect_question(rt, set, request)?;
-            expect(rt, is_filled(&words), "words changed")?;
+            print_refusal(rt, e, set, request);
+            wanted.expect_refusal(rt, e);
+            wanted.expect_check(rt, set, request);
+            wanted.expect_question(rt, set, request);
+            expect(rt, is_filled(&words), "words changed");
         }
     }
-    expect_short(rt, set, request, &wanted)
+    expect_short(rt, set, request, &wanted);
 }
 
 // Texts of a set, a request, a configuration and entries.
-fn configuration_case(rt: &impl Print, stored: &mut Stored<'_>) -> io::Result<()> {
+fn configuration_case(rt: &impl Print, stored: &mut Stored<'_>) {
     let (set, request) = (stored.text(), stored.text());
-    print!(rt; " asked")?;
+    let _ = print!(rt; " asked");
     let mut words = [0u64; WORDS];
     put_rows(
         &mut words,
@@ -114,7 +109,7 @@ fn configuration_case(rt: &impl Print, stored: &mut Stored<'_>) -> io::Result<()
         request,
         words,
     }
-    .ask(rt, stored.text())
+    .ask(rt, stored.text());
 }
 
 // What a jar becomes: the name of its file, the name that its manifest gives, and its package records.
@@ -126,23 +121,18 @@ struct Jar<'a> {
 }
 
 // The records of a jar, or the refusal, and what the output, whose bytes are all 7, holds then.
-fn expect_written(
-    rt: &impl Print,
-    jar: Jar<'_>,
-    wanted: &Wanted<'_>,
-    out: &mut [u8],
-) -> io::Result<()> {
+fn expect_written(rt: &impl Print, jar: Jar<'_>, wanted: &Wanted<'_>, out: &mut [u8]) {
     match automatic_from_jar_name(jar.name, jar.manifest, jar.packages, out) {
         Ok(n) => {
-            print!(rt; " written {n}")?;
-            expect(rt, wanted.number == 0, "number")?;
-            expect(rt, head(out, n) == wanted.text, "output")?;
-            expect(rt, is_untouched(tail(out, n)), "output behind")
+            let _ = print!(rt; " written {n}");
+            expect(rt, wanted.number == 0, "number");
+            expect(rt, head(out, n) == wanted.text, "output");
+            expect(rt, is_untouched(tail(out, n)), "output behind");
         }
         Err(e) => {
-            print_refusal(rt, e, b"", b"")?;
-            wanted.expect_refusal(rt, e)?;
-            expect(rt, is_untouched(out), "output changed")
+            print_refusal(rt, e, b"", b"");
+            wanted.expect_refusal(rt, e);
+            expect(rt, is_untouched(out), "output changed");
         }
     }
 }
@@ -153,7 +143,7 @@ fn is_untouched(out: &[u8]) -> bool {
 
 // Texts of a jar name, a manifest name and package records, whether the manifest name is given, whether the output has only 40
 // bytes, the stored number and what goes with it.
-fn jar_case(rt: &impl Print, stored: &mut Stored<'_>) -> io::Result<()> {
+fn jar_case(rt: &impl Print, stored: &mut Stored<'_>) {
     let (name, manifest, packages) = (stored.text(), stored.text(), stored.text());
     let manifest = if stored.byte() == 1 {
         Some(manifest)
@@ -169,43 +159,44 @@ fn jar_case(rt: &impl Print, stored: &mut Stored<'_>) -> io::Result<()> {
     };
     let mut out = [7u8; 4096];
     let room = if is_short { 40 } else { 4096 };
-    expect_written(rt, jar, &Wanted { number, text }, &mut out[..room])
+    expect_written(rt, jar, &Wanted { number, text }, &mut out[..room]);
 }
 
 // The line of the case at the front.
-fn case(rt: &impl Print, stored: &mut Stored<'_>) -> io::Result<()> {
-    rt.write_all(stored.text())?;
-    print!(rt; ":")?;
+fn case(rt: &impl Print, stored: &mut Stored<'_>) {
+    let _ = rt.write_all(stored.text());
+    let _ = print!(rt; ":");
     match stored.byte() as u8 {
-        b'R' => resolution_case(rt, stored)?,
-        b'C' => configuration_case(rt, stored)?,
-        _ => jar_case(rt, stored)?,
+        b'R' => resolution_case(rt, stored),
+        b'C' => configuration_case(rt, stored),
+        _ => jar_case(rt, stored),
     }
-    println!(rt)
+    let _ = println!(rt);
 }
 
 // All cases, at most 4,096.
-fn run(rt: &impl Print, cases: &[u8]) -> io::Result<()> {
+fn run(rt: &impl Print, cases: &[u8]) {
     let mut stored = Stored { rest: cases };
     for _ in 0..4096 {
         if stored.is_empty() {
             break;
         }
-        case(rt, &mut stored)?;
+        case(rt, &mut stored);
     }
-    Ok(())
 }
 
-// The cases in this file. What cannot be printed is passed over.
+// The cases in this file.
 fn run_file(
     rt: &(impl Files + Print + Eprint + AllocGlobal),
     file: &str,
 ) -> Result<(), AllocError> {
     let mut buffer = vec![in rt.alloc(); 0u8; 524288]?;
-    let _ = match files::read_some(rt, file.as_bytes(), &mut buffer) {
+    match files::read_some(rt, file.as_bytes(), &mut buffer) {
         Ok(cases) => run(rt, cases),
-        Err(e) => eprintln!(rt; "answers: cannot read the file: {e}"),
-    };
+        Err(e) => {
+            let _ = eprintln!(rt; "answers: cannot read the file: {e}");
+        }
+    }
     Ok(())
 }
 

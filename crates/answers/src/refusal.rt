@@ -6,7 +6,6 @@ use records::bytes::part;
 use records::error::{Input, ModuleError};
 use records::request::check;
 use resolution::configuration::WORDS;
-use std::io;
 
 // What a case is to end with: the number of the refusal, 0 where there is none, and the text behind it.
 #[derive(Clone, Copy)]
@@ -70,29 +69,29 @@ impl Wanted<'_> {
     }
 
     // The refusal is the stored one.
-    pub fn expect_refusal(&self, rt: &impl Print, e: ModuleError) -> io::Result<()> {
+    pub fn expect_refusal(&self, rt: &impl Print, e: ModuleError) {
         let given = Particulars::from(e);
         let wanted = self.particulars();
-        expect(rt, given.number == wanted.number, "number")?;
-        expect(rt, given.input == wanted.input, "input")?;
-        expect(rt, given.at == wanted.at, "offset")?;
-        expect(rt, given.len == wanted.len, "length")?;
-        expect(rt, given.owner == wanted.owner, "owner")?;
-        expect(rt, given.second == wanted.second, "second module")
+        expect(rt, given.number == wanted.number, "number");
+        expect(rt, given.input == wanted.input, "input");
+        expect(rt, given.at == wanted.at, "offset");
+        expect(rt, given.len == wanted.len, "length");
+        expect(rt, given.owner == wanted.owner, "owner");
+        expect(rt, given.second == wanted.second, "second module");
     }
 
     // The stored refusal where that is 1 to 3, else 4 with the words needed.
-    pub fn expect_needed(&self, rt: &impl Print, e: ModuleError) -> io::Result<()> {
+    pub fn expect_needed(&self, rt: &impl Print, e: ModuleError) {
         if (1..=3).contains(&self.number) {
             return self.expect_refusal(rt, e);
         }
         let given = Particulars::from(e);
-        expect(rt, given.number == 4, "number with too few words")?;
-        expect(rt, given.at == WORDS, "words needed")
+        expect(rt, given.number == 4, "number with too few words");
+        expect(rt, given.at == WORDS, "words needed");
     }
 
     // The check ends with a refusal 1 to 3, and takes what is refused later.
-    pub fn expect_check(&self, rt: &impl Print, set: &[u8], request: &[u8]) -> io::Result<()> {
+    pub fn expect_check(&self, rt: &impl Print, set: &[u8], request: &[u8]) {
         match check(set, request) {
             Ok(_) => expect(rt, 3 < self.number, "check"),
             Err(e) => self.expect_refusal(rt, e),
@@ -100,7 +99,7 @@ impl Wanted<'_> {
     }
 
     // So does a question, also of a module about itself.
-    pub fn expect_question(&self, rt: &impl Print, set: &[u8], request: &[u8]) -> io::Result<()> {
+    pub fn expect_question(&self, rt: &impl Print, set: &[u8], request: &[u8]) {
         let words = [0u64; WORDS];
         match check_access(set, request, &words, AccessKind::Access, b"a", b"a", b"") {
             Ok(_) => expect(rt, 3 < self.number, "question"),
@@ -110,14 +109,9 @@ impl Wanted<'_> {
 }
 
 // The refusal, and with 5 and 7 the name that it points to.
-pub fn print_refusal(
-    rt: &impl Print,
-    e: ModuleError,
-    set: &[u8],
-    request: &[u8],
-) -> io::Result<()> {
-    print!(rt; " {}", Refusal(e))?;
-    match e {
+pub fn print_refusal(rt: &impl Print, e: ModuleError, set: &[u8], request: &[u8]) {
+    let _ = print!(rt; " {}", Refusal(e));
+    let _ = match e {
         ModuleError::ModuleNotFound(input, at, len) => {
             let named = if matches!(input, Input::Request) {
                 request
@@ -130,5 +124,5 @@ pub fn print_refusal(
             print!(rt; " {} {owner} {second}", part(set, at, len).as_bstr())
         }
         _ => Ok(()),
-    }
+    };
 }

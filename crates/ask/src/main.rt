@@ -1,5 +1,6 @@
 // Asks whether a module may see a package of another: resolves the files `set` and `request`, and prints the verdict for access
-// and the one for reflection, or the number of the refusal; and on standard error the absent module, where one is.
+// and the one for reflection, or the number of the refusal; and on standard error the absent module, where one is. A line that cannot
+// be printed is passed over.
 #![tactic(auto)]
 
 use access::access::{AccessKind, check_access};
@@ -7,7 +8,6 @@ use anyhow::{Context, Result, ensure};
 use messages::{Verdict, tell_absent};
 use resolution::configuration::WORDS;
 use resolution::resolve::resolve;
-use std::io;
 use std::rt::{Env, Files};
 
 // Whether the module `asker` may see this package of the module `target`.
@@ -20,18 +20,17 @@ struct Question<'a> {
 
 impl Question<'_> {
     // Prints both verdicts, with the configuration that the set and the request resolve to.
-    fn ask(&self, rt: &impl Print, set: &[u8], request: &[u8], words: &[u64]) -> io::Result<()> {
+    fn ask(&self, rt: &impl Print, set: &[u8], request: &[u8], words: &[u64]) {
         for (name, kind) in [
             ("access", AccessKind::Access),
             ("reflection", AccessKind::Reflection),
         ] {
             let (asker, target, package) = (self.asker, self.target, self.package);
-            match check_access(set, request, words, kind, asker, target, package) {
-                Ok(v) => println!(rt; "{name} {}", Verdict(v))?,
-                Err(e) => println!(rt; "refused {}", e.number())?,
-            }
+            let _ = match check_access(set, request, words, kind, asker, target, package) {
+                Ok(v) => println!(rt; "{name} {}", Verdict(v)),
+                Err(e) => println!(rt; "refused {}", e.number()),
+            };
         }
-        Ok(())
     }
 }
 
@@ -53,11 +52,12 @@ fn run(rt: &(impl Env + Files + Print + Eprint)) -> Result<()> {
     )?;
     let mut words = [0u64; WORDS];
     let outcome = resolve(set, request, &mut words);
-    // What cannot be printed is passed over.
-    let _ = match outcome {
+    match outcome {
         Ok(()) => question.ask(rt, set, request, &words),
-        Err(e) => println!(rt; "refused {}", e.number()),
-    };
+        Err(e) => {
+            let _ = println!(rt; "refused {}", e.number());
+        }
+    }
     tell_absent(rt, set, request, outcome);
     Ok(())
 }

@@ -6,7 +6,7 @@ ghost use Rattle.records.specs.Bytes.{u16_at};
 
 use records::bytes::{be16, byte, head, tail};
 use records::error::{Input, ModuleError};
-use std::{fmt, io};
+use std::fmt;
 
 // Stored bytes, read from the front. What is not there reads as 0, or as nothing.
 #[derive(Clone, Copy)]
@@ -97,10 +97,9 @@ impl fmt::Display for Refusal {
     }
 }
 
-// What is printed where something is not as it is to be.
-pub fn expect(rt: &impl Print, holds: bool, what: &str) -> io::Result<()> {
-    if holds {
-        return Ok(());
+// What is printed where something is not as it is to be. What cannot be printed is passed over.
+pub fn expect(rt: &impl Print, holds: bool, what: &str) {
+    if !holds {
+        let _ = print!(rt; " differs: {what}");
     }
-    print!(rt; " differs: {what}")
 }

@@ -1,4 +1,4 @@
-// Shows the limits of the inputs: what the checks and the jar reader answer at them, and where.
+// Shows the limits of the inputs: what the checks and the jar reader answer at them, and where. What cannot be printed is passed over.
 #![tactic(auto)]
 
 use cases::Refusal;
@@ -6,7 +6,6 @@ use records::error::Input;
 use records::jar::automatic_from_jar_name;
 use records::request::check_records;
 use records::set::check_set;
-use std::io;
 use std::rt::Files;
 
 // As much of the file as can be read; nothing where it cannot be opened.
@@ -14,42 +13,42 @@ fn read<'a>(rt: &impl Files, file: &str, buffer: &'a mut [u8]) -> &'a [u8] {
     files::read_some(rt, file.as_bytes(), buffer).unwrap_or(b"")
 }
 
-fn show_set(rt: &(impl Files + Print), file: &str) -> io::Result<()> {
+fn show_set(rt: &(impl Files + Print), file: &str) {
     let mut buffer = [0u8; 65536];
-    match check_set(read(rt, file, &mut buffer)) {
+    let _ = match check_set(read(rt, file, &mut buffer)) {
         Ok(checked) => println!(rt; "{file} modules {}", checked.count),
         Err(e) => println!(rt; "{file} {}", Refusal(e)),
-    }
+    };
 }
 
-fn show_records(rt: &(impl Files + Print), input: Input, file: &str) -> io::Result<()> {
+fn show_records(rt: &(impl Files + Print), input: Input, file: &str) {
     let mut buffer = [0u8; 65536];
-    match check_records(input, read(rt, file, &mut buffer)) {
+    let _ = match check_records(input, read(rt, file, &mut buffer)) {
         Ok(()) => println!(rt; "{file} good"),
         Err(e) => println!(rt; "{file} {}", Refusal(e)),
-    }
+    };
 }
 
 // What becomes of a jar of this name with these package records.
-fn show_written(rt: &impl Print, name: &[u8], packages: &[u8], out: &mut [u8]) -> io::Result<()> {
-    match automatic_from_jar_name(name, None, packages, out) {
+fn show_written(rt: &impl Print, name: &[u8], packages: &[u8], out: &mut [u8]) {
+    let _ = match automatic_from_jar_name(name, None, packages, out) {
         Ok(n) => print!(rt; " written {n}"),
         Err(e) => print!(rt; " {}", Refusal(e)),
-    }
+    };
 }
 
 // The same of a jar whose name is in a file: first into 4,096 bytes, then into 40.
-fn show_jar(rt: &(impl Files + Print), file: &str, packages: &[u8]) -> io::Result<()> {
+fn show_jar(rt: &(impl Files + Print), file: &str, packages: &[u8]) {
     let mut buffer = [0u8; 4096];
     let name = read(rt, file, &mut buffer);
-    print!(rt; "{file}")?;
-    show_written(rt, name, packages, &mut [0u8; 4096])?;
-    print!(rt; ", into 40 bytes")?;
-    show_written(rt, name, packages, &mut [0u8; 40])?;
-    println!(rt)
+    let _ = print!(rt; "{file}");
+    show_written(rt, name, packages, &mut [0u8; 4096]);
+    let _ = print!(rt; ", into 40 bytes");
+    show_written(rt, name, packages, &mut [0u8; 40]);
+    let _ = println!(rt);
 }
 
-fn run(rt: &(impl Files + Print)) -> io::Result<()> {
+fn run(rt: &(impl Files + Print)) {
     for file in [
         "set-listing",
         "set-512-modules",
@@ -76,7 +75,7 @@ fn run(rt: &(impl Files + Print)) -> io::Result<()> {
         "set-repeated-in-place",
         "set-repeated-across-places",
     ] {
-        show_set(rt, file)?;
+        show_set(rt, file);
     }
     for file in [
         "request-second-limit",
@@ -85,10 +84,10 @@ fn run(rt: &(impl Files + Print)) -> io::Result<()> {
         "request-second-static",
         "request-static-body",
     ] {
-        show_records(rt, Input::Request, file)?;
+        show_records(rt, Input::Request, file);
     }
-    show_records(rt, Input::Packages, "packages-export")?;
-    show_records(rt, Input::Packages, "packages-three")?;
+    show_records(rt, Input::Packages, "packages-export");
+    show_records(rt, Input::Packages, "packages-three");
     for (file, packages) in [
         ("jar-255", &b""[..]),
         ("jar-256", b""),
@@ -100,12 +99,10 @@ fn run(rt: &(impl Files + Print)) -> io::Result<()> {
         ("jar-two-versions", b""),
         ("jar-nothing", b""),
     ] {
-        show_jar(rt, file, packages)?;
+        show_jar(rt, file, packages);
     }
-    Ok(())
 }
 
 fn main(rt: HostRuntime) {
-    // What cannot be printed is passed over.
-    let _ = run(&rt);
+    run(&rt);
 }

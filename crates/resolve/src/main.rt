@@ -1,5 +1,5 @@
 // Resolves the set and the request in the files `set` and `request`, and prints the configuration, or the number of the refusal; and on
-// standard error the absent module, where one is, and which modules are hidden.
+// standard error the absent module, where one is, and which modules are hidden. A line that cannot be printed is passed over.
 #![tactic(auto)]
 
 mod hidden;
@@ -17,27 +17,20 @@ use records::record::Kind;
 use records::set::check_set;
 use resolution::configuration::{WORDS, len, reads, reads_unnamed};
 use resolution::resolve::resolve;
-use std::io;
 use std::rt::Files;
 
 // Of these names, those of the modules that module i reads.
-fn print_reads(
-    rt: &impl Print,
-    resolved: &Resolved<'_>,
-    names: &[usize],
-    i: usize,
-) -> io::Result<()> {
+fn print_reads(rt: &impl Print, resolved: &Resolved<'_>, names: &[usize], i: usize) {
     for entry in names {
         if reads(resolved.words, i, resolved.module_of(*entry)) {
-            println!(rt; "reads {}", resolved.name(*entry))?;
+            let _ = println!(rt; "reads {}", resolved.name(*entry));
         }
     }
-    Ok(())
 }
 
 // The members in byte order, and below each the names of the modules that it reads, with ALL-UNNAMED in its place among them. In an
 // MO three bytes stand before the name.
-fn print_modules(rt: &impl Print, resolved: &Resolved<'_>) -> io::Result<()>
+fn print_modules(rt: &impl Print, resolved: &Resolved<'_>)
     requires { length resolved.now.set.now ≤ 65536 }
 {
     let mut table = [0usize; 16384];
@@ -49,44 +42,41 @@ fn print_modules(rt: &impl Print, resolved: &Resolved<'_>) -> io::Result<()>
     let (front, behind) = names.split_at(place);
     for entry in names {
         let i = resolved.module_of(*entry);
-        println!(rt; "module {}", resolved.name(*entry))?;
-        print_reads(rt, resolved, front, i)?;
+        let _ = println!(rt; "module {}", resolved.name(*entry));
+        print_reads(rt, resolved, front, i);
         if reads_unnamed(resolved.words, i) {
-            println!(rt; "reads ALL-UNNAMED")?;
+            let _ = println!(rt; "reads ALL-UNNAMED");
         }
-        print_reads(rt, resolved, behind, i)?;
+        print_reads(rt, resolved, behind, i);
     }
-    Ok(())
 }
 
 // The packages of the members in byte order, and beside each the module that has it.
-fn print_owners(rt: &impl Print, resolved: &Resolved<'_>) -> io::Result<()>
+fn print_owners(rt: &impl Print, resolved: &Resolved<'_>)
     requires { length resolved.now.set.now ≤ 65536 }
 {
     let mut table = [0usize; 16384];
     for entry in resolved.in_order(Kind::Package, 0, &mut table) {
-        println!(rt;
+        let _ = println!(rt;
             "owner {} {}",
             resolved.name(*entry),
             resolved.module_name(*entry)
-        )?;
+        );
     }
-    Ok(())
 }
 
 // The configuration that the set and its request resolve to.
 #[tactic(auto, using(crate::proofs::hidden::Laws::hidden_laws))]
-fn print_resolved(rt: &impl Print, set: &[u8], words: &[u64]) -> io::Result<()>
+fn print_resolved(rt: &impl Print, set: &[u8], words: &[u64])
     requires { length set.now ≤ 65536 }
 {
-    println!(rt; "resolved {}", len(words))?;
+    let _ = println!(rt; "resolved {}", len(words));
     if let Ok(checked) = check_set(set) {
         let starts = &checked.starts[..checked.count];
         let resolved = Resolved { set, starts, words };
-        print_modules(rt, &resolved)?;
-        print_owners(rt, &resolved)?;
+        print_modules(rt, &resolved);
+        print_owners(rt, &resolved);
     }
-    Ok(())
 }
 
 fn run(rt: &(impl Files + Print + Eprint)) -> Result<()> {
@@ -98,11 +88,12 @@ fn run(rt: &(impl Files + Print + Eprint)) -> Result<()> {
     )?;
     let mut words = [0u64; WORDS];
     let outcome = resolve(set, request, &mut words);
-    // What cannot be printed is passed over.
-    let _ = match outcome {
+    match outcome {
         Ok(()) => print_resolved(rt, set, &words),
-        Err(e) => println!(rt; "refused {}", e.number()),
-    };
+        Err(e) => {
+            let _ = println!(rt; "refused {}", e.number());
+        }
+    }
     tell_absent(rt, set, request, outcome);
     tell_hidden(rt, set);
     Ok(())
