@@ -120,25 +120,27 @@ struct Jar<'a> {
     packages: &'a [u8],
 }
 
-// The records of a jar, or the refusal, and what the output, whose bytes are all 7, holds then.
-fn expect_written(rt: &impl Print, jar: Jar<'_>, wanted: &Wanted<'_>, out: &mut [u8]) {
+// The records of a jar, or the refusal, and what the output, which was as `before` says, holds then.
+fn expect_written(
+    rt: &impl Print,
+    jar: Jar<'_>,
+    wanted: &Wanted<'_>,
+    out: &mut [u8],
+    before: &[u8],
+) {
     match automatic_from_jar_name(jar.name, jar.manifest, jar.packages, out) {
         Ok(n) => {
             let _ = print!(rt; " written {n}");
             expect(rt, wanted.number == 0, "number");
             expect(rt, head(out, n) == wanted.text, "output");
-            expect(rt, is_untouched(tail(out, n)), "output behind");
+            expect(rt, tail(out, n) == tail(before, n), "output behind");
         }
         Err(e) => {
             print_refusal(rt, e, b"", b"");
             wanted.expect_refusal(rt, e);
-            expect(rt, is_untouched(out), "output changed");
+            expect(rt, *out == *before, "output changed");
         }
     }
-}
-
-fn is_untouched(out: &[u8]) -> bool {
-    out.iter().all(|byte| *byte == 7)
 }
 
 // Texts of a jar name, a manifest name and package records, whether the manifest name is given, whether the output has only 40
@@ -157,9 +159,16 @@ fn jar_case(rt: &impl Print, stored: &mut Stored<'_>) {
         manifest,
         packages,
     };
-    let mut out = [7u8; 4096];
+    let before = [7u8; 4096];
+    let mut out = before;
     let room = if is_short { 40 } else { 4096 };
-    expect_written(rt, jar, &Wanted { number, text }, &mut out[..room]);
+    expect_written(
+        rt,
+        jar,
+        &Wanted { number, text },
+        &mut out[..room],
+        &before[..room],
+    );
 }
 
 // The line of the case at the front.

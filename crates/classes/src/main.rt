@@ -5,6 +5,7 @@
 
 use cases::{Refusal, Stored, expect};
 use class_reader::class_file::from_class_file;
+use records::bytes::tail;
 use records::error::ModuleError;
 use std::alloc::AllocError;
 
@@ -41,8 +42,8 @@ fn expect_short(rt: &impl Print, class: &[u8], needed: usize) {
     expect(rt, out == [7u8; 8], "changed though too short");
 }
 
-// The answer for the class file, and what differs from what is stored. Behind the records the output is as it was.
-fn check(rt: &impl Print, class: &[u8], wanted: Answer, records: &[u8]) {
+// The answer for the class file, and what differs from what is stored. Behind the records the output is as it was before.
+fn check(rt: &impl Print, class: &[u8], wanted: Answer, records: &[u8], before: &[u8]) {
     let mut out = [7u8; 131072];
     let written = from_class_file(class, &mut out);
     let _ = match written {
@@ -54,7 +55,7 @@ fn check(rt: &impl Print, class: &[u8], wanted: Answer, records: &[u8]) {
     expect(rt, answer.at == wanted.at, "offset or length");
     let mut out = Stored { rest: &out };
     expect(rt, out.bytes(records.len()) == records, "output");
-    expect(rt, out.rest.iter().all(|byte| *byte == 7), "output");
+    expect(rt, out.rest == tail(before, records.len()), "output");
     if !records.is_empty() {
         expect_short(rt, class, records.len());
     }
@@ -62,24 +63,25 @@ fn check(rt: &impl Print, class: &[u8], wanted: Answer, records: &[u8]) {
 }
 
 // The case at the front.
-fn case(rt: &impl Print, stored: &mut Stored<'_>) {
+fn case(rt: &impl Print, stored: &mut Stored<'_>, before: &[u8]) {
     let len = stored.byte();
     let _ = rt.write_all(stored.bytes(len));
     let class = stored.text();
     let number = stored.byte();
     let at = stored.large_number();
     let records = stored.bytes(if number == 0 { at } else { 0 });
-    check(rt, class, Answer { number, at }, records);
+    check(rt, class, Answer { number, at }, records, before);
 }
 
 // All cases, at most 4,096.
 fn run(rt: &impl Print, cases: &[u8]) {
+    let before = [7u8; 131072];
     let mut stored = Stored { rest: cases };
     for _ in 0..4096 {
         if stored.is_empty() {
             break;
         }
-        case(rt, &mut stored);
+        case(rt, &mut stored, &before);
     }
 }
 
