@@ -38,7 +38,7 @@ use std::rt::Files;
 // The words are those of the stored members and rows, and one behind them that is 7. The rows give the same words where each edge
 // is added by itself. Tells how many edges there are.
 fn expect_words(rt: &impl Print, words: &[u64], text: &[u8])
-    requires { 8 ≤ length words.now }
+    requires { 4616 ≤ length words.now }
 {
     let rows = tail(text, 64);
     let mut wanted = [7u64; 4617];

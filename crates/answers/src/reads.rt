@@ -1,13 +1,13 @@
 // Read edges, added one by one with `add_read`, and read one by one with `reads`.
 ghost use Rattle.std.specs.Prelude.{◌≤◌, length};
 
-use crate::rows::{ROW_WORDS, row};
+use crate::rows::{MEMBER_WORDS, ROW_WORDS, row};
 use cases::Stored;
-use resolution::configuration::{MEMBER_WORDS, add_read, reads, reads_unnamed, row_of};
+use resolution::configuration::{add_read, reads, reads_unnamed};
 
 // The edges of these rows, in the rows of a configuration; how many there are.
 pub fn add_rows(words: &mut [u64], rows: &[u8]) -> usize
-    requires { 8 ≤ length words.old }
+    requires { 4616 ≤ length words.old }
 {
     let mut stored = Stored { rest: rows };
     let mut edges = 0usize;
@@ -20,16 +20,26 @@ pub fn add_rows(words: &mut [u64], rows: &[u8]) -> usize
         for j in 0..512 {
             if targets.has(j) {
                 add_read(own, j);
+                edges = edges.saturating_add(1);
             }
         }
-        edges = edges.saturating_add(targets.count());
     }
     edges
 }
 
 // The same edges at all 512 positions.
-pub fn is_reads(a: &[u64], b: &[u64]) -> bool {
-    (0..512).all(|i| row_of(a, i).words == row_of(b, i).words)
+pub fn is_reads(a: &[u64], b: &[u64]) -> bool
+    requires in_a { 4616 ≤ length a.now }
+    requires in_b { 4616 ≤ length b.now }
+{
+    for i in 0..512 {
+        let at = MEMBER_WORDS + ROW_WORDS * i;
+        let end = at + 8;
+        if a[at..end] != b[at..end] {
+            return false;
+        }
+    }
+    true
 }
 
 // Position i reads those of the row at the front, and no others.

@@ -2,10 +2,12 @@
 ghost use Rattle.std.specs.Prelude.{◌≤◌, length};
 
 use cases::Stored;
-use resolution::configuration::MEMBER_WORDS;
 use resolution::row::Row;
 
-// A row's words of positions, and the one that says whether it has ALL-UNNAMED.
+// Where the words are wanted: numbers of this program's own, so that those of the code under test are held against them. Eight
+// words of members, and behind them a row for each position: eight words of positions, and one that says whether it has ALL-UNNAMED.
+pub const MEMBER_WORDS: usize = 8;
+
 pub const ROW_WORDS: usize = 9;
 
 // Eight bytes as a word.
@@ -31,7 +33,7 @@ pub fn row(stored: &mut Stored<'_>) -> Row {
 
 // The members at the front, and a row for each position; those without a stored row have an empty one.
 pub fn put_rows(words: &mut [u64], stored: &mut Stored<'_>)
-    requires { 8 ≤ length words.old }
+    requires { 4616 ≤ length words.old }
 {
     let (members, rows) = words.split_at_mut(MEMBER_WORDS);
     put(members, stored);
