@@ -35,7 +35,10 @@ impl Question<'_> {
 }
 
 fn run(rt: &(impl Env + Files + Print + Eprint)) -> Result<()> {
-    ensure!(files::arg_count(rt) == 3, "usage: ask ASKER TARGET PACKAGE");
+    ensure!(
+        files::has_arg(rt, 3) && !files::has_arg(rt, 4),
+        "usage: ask ASKER TARGET PACKAGE"
+    );
     let mut asker = [0u8; 4096];
     let mut target = [0u8; 4096];
     let mut package = [0u8; 4096];

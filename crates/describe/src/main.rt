@@ -6,7 +6,10 @@ use class_reader::class_file::from_class_file;
 use std::rt::{Env, Files};
 
 fn run(rt: &(impl Env + Files + Print)) -> Result<()> {
-    ensure!(files::arg_count(rt) == 2, "usage: describe FILE OUT");
+    ensure!(
+        files::has_arg(rt, 2) && !files::has_arg(rt, 3),
+        "usage: describe FILE OUT"
+    );
     let mut name = [0u8; 4096];
     let file = files::arg(rt, 1, &mut name).context("describe: FILE")?;
     let mut name = [0u8; 4096];

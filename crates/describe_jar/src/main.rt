@@ -8,7 +8,7 @@ use std::rt::{Env, Files};
 
 // The name that the jar's manifest gives, where it is an argument.
 fn manifest_arg<'a>(rt: &impl Env, buffer: &'a mut [u8]) -> Result<Option<&'a [u8]>> {
-    if files::arg_count(rt) < 3 {
+    if !files::has_arg(rt, 3) {
         return Ok(None);
     }
     files::arg(rt, 3, buffer)
@@ -18,7 +18,7 @@ fn manifest_arg<'a>(rt: &impl Env, buffer: &'a mut [u8]) -> Result<Option<&'a [u
 
 fn run(rt: &(impl Env + Files + Print)) -> Result<()> {
     ensure!(
-        (2..=3).contains(&files::arg_count(rt)),
+        files::has_arg(rt, 2) && !files::has_arg(rt, 4),
         "usage: describe_jar JARNAME OUT [MANIFEST-NAME]"
     );
     let mut jar = [0u8; 4096];

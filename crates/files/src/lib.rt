@@ -113,11 +113,9 @@ pub fn arg<'a>(rt: &impl Env, i: usize, buffer: &'a mut [u8]) -> Result<&'a [u8]
     Ok(&buffer[..len])
 }
 
-// How many arguments the program was started with, its own name aside.
-pub fn arg_count(rt: &impl Env) -> usize {
-    (1..usize::MAX)
-        .take_while(|i| !matches!(rt.arg(*i, &mut []), Err(FillError::NotPresent)))
-        .count()
+// Whether the program was started with an argument of this number. Number 0 is the program's own name.
+pub fn has_arg(rt: &impl Env, i: usize) -> bool {
+    !matches!(rt.arg(i, &mut []), Err(FillError::NotPresent))
 }
 
 // A refusal as it is printed: its number, behind 1 and 8 the place of the fault, and behind 4 the length needed.
