@@ -1,7 +1,7 @@
 // Files of a program's working folder and its arguments, why one cannot be read or written, and the file that records are written to.
 #![tactic(auto)]
 
-ghost use Rattle.std.specs.Prelude.{◌≡◌, ◌≤◌, ◌↔◌, length, IfOk, IsOk, IsUtf8};
+ghost use Rattle.std.specs.Prelude.{◌≡◌, ◌<◌, ◌≤◌, ◌↔◌, length, IfOk, IsOk, IsUtf8};
 
 use arrayvec::ArrayString;
 use records::bytes::head;
@@ -118,6 +118,14 @@ pub fn has_arg(rt: &impl Env, i: usize) -> bool {
     !matches!(rt.arg(i, &mut []), Err(FillError::NotPresent))
 }
 
+// How many arguments the program was started with, its own name aside. It asks for each of them, so a usage test asks `has_arg` for
+// one or two.
+pub fn arg_count(rt: &impl Env) -> usize
+    ensures { result < 18446744073709551615 }
+{
+    (1..usize::MAX).take_while(|i| has_arg(rt, *i)).count()
+}
+
 // A refusal as it is printed: its number, behind 1 and 8 the place of the fault, and behind 4 the length needed.
 #[derive(Clone, Copy)]
 struct Refused(ModuleError);
@@ -152,3 +160,6 @@ pub fn write_records(
     };
     Ok(())
 }
+
+#[cfg(test)]
+mod tests;
