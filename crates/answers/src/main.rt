@@ -27,7 +27,7 @@ use crate::question::Asked;
 use crate::reads::{add_rows, has_rows, is_reads};
 use crate::refusal::{Wanted, print_refusal};
 use crate::rows::{is_filled, put_rows};
-use cases::{Stored, expect};
+use cases::{Stored, report_unless};
 use records::bytes::{head, tail};
 use records::jar::automatic_from_jar_name;
 use resolution::configuration::WORDS;
@@ -43,21 +43,21 @@ fn expect_words(rt: &impl Print, words: &[u64], text: &[u8])
     let rows = tail(text, 64);
     let mut wanted = [7u64; 4617];
     put_rows(&mut wanted, &mut Stored { rest: text });
-    expect(rt, words == &wanted[..], "words");
-    expect(rt, has_rows(words, rows), "reads");
+    report_unless(rt, words == &wanted[..], "words");
+    report_unless(rt, has_rows(words, rows), "reads");
     let mut made = [0u64; WORDS];
     let _ = print!(rt; " reads {}", add_rows(&mut made, rows));
-    expect(rt, is_reads(words, &made), "edges");
+    report_unless(rt, is_reads(words, &made), "edges");
 }
 
 // One word too few: what is refused with 1 to 3 still is, all else is refused with 4. No word changes.
 fn expect_short(rt: &impl Print, set: &[u8], request: &[u8], wanted: &Wanted<'_>) {
     let mut words = [7u64; 4615];
     match resolve(set, request, &mut words) {
-        Ok(()) => expect(rt, false, "too few words"),
+        Ok(()) => report_unless(rt, false, "too few words"),
         Err(e) => wanted.expect_needed(rt, e),
     }
-    expect(rt, is_filled(&words), "too few words changed");
+    report_unless(rt, is_filled(&words), "too few words changed");
 }
 
 // Texts of a set and a request, the stored number and what goes with it, and entries. Of the words lent one is too many, and stays
@@ -72,7 +72,7 @@ fn resolution_case(rt: &impl Print, stored: &mut Stored<'_>) {
         Ok(()) => {
             let words = &words;
             let _ = print!(rt; " resolved {}", resolution::configuration::len(words));
-            expect(rt, number == 0, "number");
+            report_unless(rt, number == 0, "number");
             expect_words(rt, words, text);
             Asked {
                 set,
@@ -86,7 +86,7 @@ fn resolution_case(rt: &impl Print, stored: &mut Stored<'_>) {
             wanted.expect_refusal(rt, e);
             wanted.expect_check(rt, set, request);
             wanted.expect_question(rt, set, request);
-            expect(rt, is_filled(&words), "words changed");
+            report_unless(rt, is_filled(&words), "words changed");
         }
     }
     expect_short(rt, set, request, &wanted);
@@ -131,14 +131,14 @@ fn expect_written(
     match automatic_from_jar_name(jar.name, jar.manifest, jar.packages, out) {
         Ok(n) => {
             let _ = print!(rt; " written {n}");
-            expect(rt, wanted.number == 0, "number");
-            expect(rt, head(out, n) == wanted.text, "output");
-            expect(rt, tail(out, n) == tail(before, n), "output behind");
+            report_unless(rt, wanted.number == 0, "number");
+            report_unless(rt, head(out, n) == wanted.text, "output");
+            report_unless(rt, tail(out, n) == tail(before, n), "output behind");
         }
         Err(e) => {
             print_refusal(rt, e, b"", b"");
             wanted.expect_refusal(rt, e);
-            expect(rt, *out == *before, "output changed");
+            report_unless(rt, *out == *before, "output changed");
         }
     }
 }

@@ -2,7 +2,7 @@
 use crate::rows::row;
 use access::access::{AccessCheckResult, AccessKind, check_access};
 use access::graph::{GraphAnswer, readers_of, transitive_reads};
-use cases::{Stored, expect};
+use cases::{Stored, report_unless};
 use messages::Verdict;
 use records::error::ModuleError;
 use resolution::owner::find_module_for_package;
@@ -65,10 +65,10 @@ fn expect_graph(
         Ok(answer) => {
             let words = answer.row;
             let _ = print!(rt; " {}", Row { words }.count());
-            expect(rt, words == wanted.words, what);
-            expect(rt, usize::from(answer.unnamed) == unnamed, what);
+            report_unless(rt, words == wanted.words, what);
+            report_unless(rt, usize::from(answer.unnamed) == unnamed, what);
         }
-        Err(_) => expect(rt, false, what),
+        Err(_) => report_unless(rt, false, what),
     }
 }
 
@@ -84,8 +84,8 @@ impl Asked<'_> {
         let access = self.answer(AccessKind::Access, asker, target, package);
         let reflection = self.answer(AccessKind::Reflection, asker, target, package);
         let _ = print!(rt; " {access}/{reflection}");
-        expect(rt, access.number() == stored.byte(), "access");
-        expect(rt, reflection.number() == stored.byte(), "reflection");
+        report_unless(rt, access.number() == stored.byte(), "access");
+        report_unless(rt, reflection.number() == stored.byte(), "reflection");
     }
 
     // A package, and its owner.
@@ -96,7 +96,7 @@ impl Asked<'_> {
             Ok(None) => print!(rt; " owner none"),
             _ => print!(rt; " owner {position}"),
         };
-        expect(rt, position == stored.number(), "owner");
+        report_unless(rt, position == stored.number(), "owner");
     }
 
     // A name, its readers and what it reaches.

@@ -1,7 +1,7 @@
 // Refusals: their particulars, printed and compared with the stored ones.
 use access::access::{AccessKind, check_access};
 use bstr::ByteSlice;
-use cases::{Refusal, Stored, expect};
+use cases::{Refusal, Stored, report_unless};
 use records::bytes::part;
 use records::error::{Input, ModuleError};
 use records::request::check;
@@ -72,12 +72,12 @@ impl Wanted<'_> {
     pub fn expect_refusal(&self, rt: &impl Print, e: ModuleError) {
         let given = Particulars::from(e);
         let wanted = self.particulars();
-        expect(rt, given.number == wanted.number, "number");
-        expect(rt, given.input == wanted.input, "input");
-        expect(rt, given.at == wanted.at, "offset");
-        expect(rt, given.len == wanted.len, "length");
-        expect(rt, given.owner == wanted.owner, "owner");
-        expect(rt, given.second == wanted.second, "second module");
+        report_unless(rt, given.number == wanted.number, "number");
+        report_unless(rt, given.input == wanted.input, "input");
+        report_unless(rt, given.at == wanted.at, "offset");
+        report_unless(rt, given.len == wanted.len, "length");
+        report_unless(rt, given.owner == wanted.owner, "owner");
+        report_unless(rt, given.second == wanted.second, "second module");
     }
 
     // The stored refusal where that is 1 to 3, else 4 with the words needed.
@@ -86,14 +86,14 @@ impl Wanted<'_> {
             return self.expect_refusal(rt, e);
         }
         let given = Particulars::from(e);
-        expect(rt, given.number == 4, "number with too few words");
-        expect(rt, given.at == WORDS, "words needed");
+        report_unless(rt, given.number == 4, "number with too few words");
+        report_unless(rt, given.at == WORDS, "words needed");
     }
 
     // The check ends with a refusal 1 to 3, and takes what is refused later.
     pub fn expect_check(&self, rt: &impl Print, set: &[u8], request: &[u8]) {
         match check(set, request) {
-            Ok(_) => expect(rt, 3 < self.number, "check"),
+            Ok(_) => report_unless(rt, 3 < self.number, "check"),
             Err(e) => self.expect_refusal(rt, e),
         }
     }
@@ -102,7 +102,7 @@ impl Wanted<'_> {
     pub fn expect_question(&self, rt: &impl Print, set: &[u8], request: &[u8]) {
         let words = [0u64; WORDS];
         match check_access(set, request, &words, AccessKind::Access, b"a", b"a", b"") {
-            Ok(_) => expect(rt, 3 < self.number, "question"),
+            Ok(_) => report_unless(rt, 3 < self.number, "question"),
             Err(e) => self.expect_refusal(rt, e),
         }
     }

@@ -1,12 +1,12 @@
 // What the test programs share: the form in which their cases are stored, and what they print.
 #![tactic(auto)]
 
-ghost use Rattle.std.specs.Prelude.{◌≡◌, ◌+◌, ◌*◌, ◌<◌, take, drop, get_or, length, IsTrue, ◌↔◌};
+ghost use Rattle.std.specs.Prelude.{◌≡◌, ◌+◌, ◌*◌, ◌<◌, take, drop, get_or, length, IsOk, IsTrue, ◌↔◌};
 ghost use Rattle.records.specs.Bytes.{u16_at};
 
 use records::bytes::{be16, byte, head, tail};
 use records::error::{Input, ModuleError};
-use std::fmt;
+use std::{fmt, io};
 
 // Stored bytes, read from the front. What is not there reads as 0, or as nothing.
 #[derive(Clone, Copy)]
@@ -97,9 +97,22 @@ impl fmt::Display for Refusal {
     }
 }
 
-// What is printed where something is not as it is to be. What cannot be printed is passed over.
-pub fn expect(rt: &impl Print, holds: bool, what: &str) {
+// What is printed where something is not as it is to be, or why it cannot be printed.
+pub fn expect(rt: &impl Print, holds: bool, what: &str) -> io::Result<()>
+    ensures { IsTrue holds → IsOk result }
+{
+    if holds {
+        return Ok(());
+    }
+    print!(rt; " differs: {what}")
+}
+
+// The same. What cannot be printed is passed over.
+pub fn report_unless(rt: &impl Print, holds: bool, what: &str) {
     if !holds {
         let _ = print!(rt; " differs: {what}");
     }
 }
+
+#[cfg(test)]
+mod tests;

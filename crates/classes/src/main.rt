@@ -3,7 +3,7 @@
 // answer (0 where records are written), its offset or length in four bytes, and the records. What cannot be printed is passed over.
 #![tactic(auto)]
 
-use cases::{Refusal, Stored, expect};
+use cases::{Refusal, Stored, report_unless};
 use class_reader::class_file::from_class_file;
 use records::bytes::tail;
 use records::error::ModuleError;
@@ -37,9 +37,9 @@ impl From<Result<usize, ModuleError>> for Answer {
 fn expect_short(rt: &impl Print, class: &[u8], needed: usize) {
     let mut out = [7u8; 8];
     let answer = Answer::from(from_class_file(class, &mut out));
-    expect(rt, answer.number == 4, "too short");
-    expect(rt, answer.at == needed, "bytes needed");
-    expect(rt, out == [7u8; 8], "changed though too short");
+    report_unless(rt, answer.number == 4, "too short");
+    report_unless(rt, answer.at == needed, "bytes needed");
+    report_unless(rt, out == [7u8; 8], "changed though too short");
 }
 
 // The answer for the class file, and what differs from what is stored. Behind the records the output is as it was before.
@@ -51,11 +51,11 @@ fn check(rt: &impl Print, class: &[u8], wanted: Answer, records: &[u8], before: 
         Err(e) => print!(rt; " {}", Refusal(e)),
     };
     let answer = Answer::from(written);
-    expect(rt, answer.number == wanted.number, "number");
-    expect(rt, answer.at == wanted.at, "offset or length");
+    report_unless(rt, answer.number == wanted.number, "number");
+    report_unless(rt, answer.at == wanted.at, "offset or length");
     let mut out = Stored { rest: &out };
-    expect(rt, out.bytes(records.len()) == records, "output");
-    expect(rt, out.rest == tail(before, records.len()), "output");
+    report_unless(rt, out.bytes(records.len()) == records, "output");
+    report_unless(rt, out.rest == tail(before, records.len()), "output");
     if !records.is_empty() {
         expect_short(rt, class, records.len());
     }
